@@ -1,0 +1,35 @@
+-- A code is one construct with its parts, which are codes.
+use Prim.Native.Nat.{ℕ, _+_, _^_}
+use lib.Dec.{ltb}
+use lib.IntN.{ℤ, pos, negsuc}
+use mathlib.Core.Bool.{Bool}
+use Rattle.code.specs.declared.operator.Operator.{Operator}
+use Rattle.code.specs.declared.types.Base.{Base}
+
+pub data Code : Type 0 where
+  number : ℤ → Code
+  truth : Bool → Code
+  input : ℕ → Code
+  variable : ℕ → Code
+  join : Operator → Code → Code → Code
+  choose : Code → Code → Code → Code
+  apply : Code → Code → Code
+  function : ℕ → Base → Code → Code
+  letin : ℕ → Code → Code → Code
+
+-- the number of constructs
+abbrev pub size : Code → ℕ
+size (number n) = 1
+size (truth b) = 1
+size (input i) = 1
+size (variable s) = 1
+size (join o a b) = 1 + size a + size b
+size (choose a b d) = 1 + size a + size b + size d
+size (apply f a) = 1 + size f + size a
+size (function s p b) = 1 + size b
+size (letin s e b) = 1 + size e + size b
+
+-- the numbers of 32 bits
+abbrev pub in-range32 : ℤ → Bool
+in-range32 (pos n) = ltb n (2 ^ 31)
+in-range32 (negsuc n) = ltb n (2 ^ 31)

@@ -1,0 +1,5 @@
+pub mod Numbers
+pub mod Code
+pub mod Names
+pub mod Typing
+pub mod Text
