@@ -1,0 +1,101 @@
+// A store of one row for each make, in rows that its owner lends.
+ghost use mathlib.Core.Path.{_≡_};
+ghost use Prim.Native.Nat.{ℕ, _<_, _≤_};
+ghost use lib.ListN.{length};
+ghost use Rattle.store.specs.Ledger.{Sound, code-of, units-left, one-each, asked-size, size-of-row, Fresh};
+use code::construct::Construct;
+use code::construct::Handle;
+use crate::meaning::Store;
+use crate::meaning::StoreFault;
+use crate::row::Row;
+
+// The most rows that a ledger uses.
+pub const MOST_ROWS: usize = 65_536;
+
+// The largest code that a store makes.
+pub const LARGEST: u16 = 4096;
+
+#[derive(Drop)]
+pub struct Ledger<'a> {
+    rows: &'a mut [Row],
+    used: usize,
+}
+
+impl<'a> Ledger<'a> {
+    // A ledger with nothing in it, and a unit for each of the first 65,536 rows.
+    pub fn new(rows: &'a mut [Row]) -> Ledger<'a>
+        ensures { λ r. ⌜ Fresh r (now (rows .entry)) ⌝ }
+    {
+        Ledger { rows, used: 0 }
+    }
+}
+
+pub impl<'a> Store for Ledger<'a> as LedgerStore {
+    ghost valid = { Sound };
+
+    ghost code = { code-of };
+
+    ghost units = { units-left };
+
+    ghost price = { one-each };
+
+    fn make(&mut self, construct: Construct) -> Result<Handle, StoreFault> {
+        let Some(size) = size_asked(self.rows, self.used, construct) else {
+            return Err(StoreFault::BadArgument);
+        };
+        if size > LARGEST {
+            return Err(StoreFault::TooLarge);
+        }
+        let at = self.used;
+        if at >= self.rows.len() || at >= MOST_ROWS {
+            return Err(StoreFault::NoRoom { wanted: 1, free: 0 });
+        }
+        self.rows[at] = Row { construct, size };
+        self.used = at + 1;
+        Ok(Handle { number: at as u32 })
+    }
+
+    fn look(&self, handle: Handle) -> Option<Construct> {
+        let at = handle.number as usize;
+        if at < self.used { Some(self.rows[at].construct) } else { None }
+    }
+
+    fn free(&self) -> usize {
+        self.rows.len().min(MOST_ROWS) - self.used
+    }
+}
+
+// The size of the code behind a handle, none where the handle is unknown.
+fn size_at(rows: &[Row], used: usize, handle: Handle) -> Option<u16>
+    requires { ⌜ used ≤ length (now rows) ⌝ }
+    ensures { λ r. ⌜ r ≡ size-of-row (now (rows .entry)) used handle ⌝ }
+{
+    let at = handle.number as usize;
+    if at < used { Some(rows[at].size) } else { None }
+}
+
+// The size that the construct would have, none for an unknown handle or a number outside its range.
+fn size_asked(rows: &[Row], used: usize, construct: Construct) -> Option<u16>
+    requires { ⌜ used ≤ length (now rows) ⌝ }
+    ensures { λ r. ⌜ r ≡ asked-size (now (rows .entry)) used construct ⌝ }
+{
+    match construct {
+        Construct::Number(_) | Construct::Truth(_) => Some(1),
+        Construct::Input(input) => if input < 8 { Some(1) } else { None },
+        Construct::Variable(serial) => if serial < 4096 { Some(1) } else { None },
+        Construct::Join(_, a, b) | Construct::Apply(a, b) => {
+            Some(1 + size_at(rows, used, a)? + size_at(rows, used, b)?)
+        }
+        Construct::Choose(a, b, d) => {
+            Some(1 + size_at(rows, used, a)? + size_at(rows, used, b)? + size_at(rows, used, d)?)
+        }
+        Construct::Function(serial, _, body) => {
+            let size = size_at(rows, used, body)?;
+            if serial < 4096 { Some(1 + size) } else { None }
+        }
+        Construct::Let(serial, bound, body) => {
+            let size = 1 + size_at(rows, used, bound)? + size_at(rows, used, body)?;
+            if serial < 4096 { Some(size) } else { None }
+        }
+    }
+}
