@@ -1,0 +1,2 @@
+// The generator: cells, open binders and marks over any store of code, and the printer.
+pub mod call;
