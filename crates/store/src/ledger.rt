@@ -34,6 +34,39 @@ impl<'a> Ledger<'a> {
     {
         Ledger { rows, used: 0 }
     }
+
+    // The size of the code behind a handle, none where the handle is unknown.
+    fn size_at(&self, handle: Handle) -> Option<u16>
+        requires { ⌜ now self .used ≤ length (now (now self .rows)) ⌝ }
+        ensures { λ r. ⌜ r ≡ size-of-row (now (now (self .entry) .rows)) (now (self .entry) .used) handle ⌝ }
+    {
+        let at = handle.number as usize;
+        if at < self.used { Some(self.rows[at].size) } else { None }
+    }
+
+    // The size that the construct would have, none for an unknown handle or a number outside its range.
+    fn size_asked(&self, construct: Construct) -> Option<u32>
+        requires { ⌜ now self .used ≤ length (now (now self .rows)) ⌝ }
+        ensures { λ r. ⌜ r ≡ asked-size (now (now (self .entry) .rows)) (now (self .entry) .used) construct ⌝ }
+    {
+        match construct {
+            Construct::Number(_) | Construct::Truth(_) => Some(1),
+            Construct::Input(input) => if input < INPUTS { Some(1) } else { None },
+            Construct::Variable(serial) => if serial < SERIALS { Some(1) } else { None },
+            Construct::Join(_, a, b) | Construct::Apply(a, b) => {
+                over_two(self.size_at(a), self.size_at(b))
+            }
+            Construct::Choose(a, b, d) => {
+                over_three(self.size_at(a), self.size_at(b), self.size_at(d))
+            }
+            Construct::Function(serial, _, body) => {
+                if serial < SERIALS { over_one(self.size_at(body)) } else { None }
+            }
+            Construct::Let(serial, bound, body) => {
+                if serial < SERIALS { over_two(self.size_at(bound), self.size_at(body)) } else { None }
+            }
+        }
+    }
 }
 
 pub impl<'a> Store for Ledger<'a> as LedgerStore {
@@ -46,13 +79,13 @@ pub impl<'a> Store for Ledger<'a> as LedgerStore {
     ghost price = { one-each };
 
     fn make(&mut self, construct: Construct) -> Result<Handle, StoreFault> {
-        let at = self.used;
-        let Some(size) = size_asked(self.rows, at, construct) else {
+        let Some(size) = self.size_asked(construct) else {
             return Err(StoreFault::BadArgument);
         };
         if size > u32::from(LARGEST) {
             return Err(StoreFault::TooLarge);
         }
+        let at = self.used;
         if at >= self.rows.len() || at >= MOST_ROWS {
             return Err(StoreFault::NoRoom { wanted: 1, free: 0 });
         }
@@ -69,15 +102,6 @@ pub impl<'a> Store for Ledger<'a> as LedgerStore {
     fn free(&self) -> usize {
         self.rows.len().min(MOST_ROWS) - self.used
     }
-}
-
-// The size of the code behind a handle, none where the handle is unknown.
-fn size_at(rows: &[Row], used: usize, handle: Handle) -> Option<u16>
-    requires { ⌜ used ≤ length (now rows) ⌝ }
-    ensures { λ r. ⌜ r ≡ size-of-row (now (rows .entry)) used handle ⌝ }
-{
-    let at = handle.number as usize;
-    if at < used { Some(rows[at].size) } else { None }
 }
 
 // The size over one part, none where the part has none.
@@ -99,32 +123,4 @@ fn over_three(a: Option<u16>, b: Option<u16>, d: Option<u16>) -> Option<u32>
     ensures { λ r. ⌜ r ≡ plus3 a b d ⌝ }
 {
     Some(1 + u32::from(a?) + u32::from(b?) + u32::from(d?))
-}
-
-// The size that the construct would have, none for an unknown handle or a number outside its range.
-fn size_asked(rows: &[Row], used: usize, construct: Construct) -> Option<u32>
-    requires { ⌜ used ≤ length (now rows) ⌝ }
-    ensures { λ r. ⌜ r ≡ asked-size (now (rows .entry)) used construct ⌝ }
-{
-    match construct {
-        Construct::Number(_) | Construct::Truth(_) => Some(1),
-        Construct::Input(input) => if input < INPUTS { Some(1) } else { None },
-        Construct::Variable(serial) => if serial < SERIALS { Some(1) } else { None },
-        Construct::Join(_, a, b) | Construct::Apply(a, b) => {
-            over_two(size_at(rows, used, a), size_at(rows, used, b))
-        }
-        Construct::Choose(a, b, d) => {
-            over_three(size_at(rows, used, a), size_at(rows, used, b), size_at(rows, used, d))
-        }
-        Construct::Function(serial, _, body) => {
-            if serial < SERIALS { over_one(size_at(rows, used, body)) } else { None }
-        }
-        Construct::Let(serial, bound, body) => {
-            if serial < SERIALS {
-                over_two(size_at(rows, used, bound), size_at(rows, used, body))
-            } else {
-                None
-            }
-        }
-    }
 }

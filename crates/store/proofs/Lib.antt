@@ -1,0 +1,4 @@
+pub mod Meanings
+pub mod Rows
+pub mod Sizes
+pub mod Makes
