@@ -1,6 +1,6 @@
 -- The sizes that stand in sound rows are those of the codes.
 use Prim.Native.Nat.{ℕ, _+_, _≤_, _<_}
-use mathlib.Core.Path.{_≡_, refl, sym, ap, _∙_}
+use mathlib.Core.Path.{_≡_, refl, sym, ap, _∙_, subst}
 use mathlib.Core.Bool.{Bool, true, false, cond}
 use mathlib.Core.List.{List}
 use mathlib.Core.Logic.{_⊎_, inl, inr}
@@ -26,7 +26,7 @@ use Rattle.store.specs.declared.meaning.StoreFault.{StoreFault}
 use Rattle.store.specs.declared.meaning.StoreFault.the-variants.{BadArgument, TooLarge}
 use Rattle.store.specs.Meaning.{Codes, over1, over2, over3, meant, in-range, sized, wanted}
 use Rattle.store.specs.Ledger.{rows-code, code-of, Sound, Row-sound, blank, size-of-row, plus1, plus2, plus3, row-size, asked-size}
-use Rattle.store.proofs.Rows.{code-past}
+use Rattle.store.proofs.Rows.{code-past, known-within}
 
 abbrev pub size-of : Option Code → Option ℕ
 size-of None = None
@@ -107,3 +107,10 @@ asked-some s x n v e = by (in-range x) (meant (code-of s) x) refl refl (e ∙ as
           wants = (λ j. cond (i j) (sized (m j)) (Err BadArgument)) ∙ ap (λ (k : ℕ). cond (leb k 4096) (Ok c) (Err TooLarge)) q;
         }
     by false o i m p = absurd (search needs)
+
+-- a sound ledger knows no code that is too large
+pub ledger-small : (s : Ledger) (h : Handle) (c : Code) → Sound s → code-of s h ≡ Some c → size c ≤ 4096
+ledger-small s h c v e =
+    let r = v .sound (h .number) (omega (arith, long-front s v, known-within (take (s .used) (now (s .rows))) h c e)) in
+    let same : r .code ≡ c = let q : _≡_ {A = Option Code} (Some (r .code)) (Some c) = sym (r .stands) ∙ e in cc in
+    subst (λ (d : Code). size d ≤ 4096) same (r .small)
