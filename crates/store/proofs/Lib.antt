@@ -2,3 +2,4 @@ pub mod Meanings
 pub mod Rows
 pub mod Sizes
 pub mod Makes
+pub mod Memories

@@ -1,7 +1,7 @@
 // A store that answers a request of late from memory, over any store.
 ghost use mathlib.Core.Path.{_≡_};
 ghost use Prim.Native.Nat.{ℕ, _<_, _≤_};
-ghost use Rattle.store.specs.Memory.{Asked, same-request, Noted, Remembers, Empty-memory};
+ghost use Rattle.store.specs.Memory.{Asked, same-request, In-order, Noted, Remembers, Empty-memory};
 use code::construct::Construct;
 use code::construct::Handle;
 use crate::meaning::Store;
@@ -40,14 +40,12 @@ impl Memory {
 
     // Remembers one request more, in the place of the oldest where the table is full.
     fn note(&mut self, request: Construct, handle: Handle)
-        requires { ⌜ now self .count ≤ 64 ⌝ ∗ ⌜ now self .next < 64 ⌝ }
+        requires { ⌜ In-order (now self) ⌝ }
         ensures { λ _. ⌜ Noted (now (self .entry)) request handle (now (self .exit)) ⌝ }
     {
         self.entries[self.next] = Remembered { request, handle };
         self.next = (self.next + 1) % 64;
-        if self.count < 64 {
-            self.count += 1;
-        }
+        self.count = (self.count + 1).min(64);
     }
 }
 
