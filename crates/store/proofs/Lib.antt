@@ -3,3 +3,4 @@ pub mod Rows
 pub mod Sizes
 pub mod Makes
 pub mod Memories
+pub mod Shares

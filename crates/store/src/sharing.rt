@@ -1,6 +1,8 @@
 // A store that answers a request of late from memory, over any store.
 ghost use mathlib.Core.Path.{_≡_};
 ghost use Prim.Native.Nat.{ℕ, _<_, _≤_};
+ghost use Rattle.store.specs.Meaning.{Made};
+ghost use Rattle.store.specs.Sharing.{Fresh-layer, Shares};
 ghost use Rattle.store.specs.Memory.{Asked, same-request, In-order, Noted, Remembers, Empty-memory};
 use code::construct::Construct;
 use code::construct::Handle;
@@ -57,7 +59,10 @@ pub struct Sharing<S> {
 
 impl<S: Store> Sharing<S> {
     // The layer over a store, with nothing remembered.
-    pub fn new(below: S) -> Sharing<S> {
+    pub fn new(below: S) -> Sharing<S>
+        ensures fresh { λ r. ⌜ Fresh-layer below r ⌝ }
+        ensures valid { λ r. ⌜ (S·Store .valid below → S·Store .valid (r .below) × Remembers (S·Store .code (r .below)) (r .memory)) ⌝ }
+    {
         Sharing { below, memory: Memory::new() }
     }
 }
@@ -71,7 +76,13 @@ pub impl<S: Store> Store for Sharing<S> as SharingStore {
 
     ghost price = { λ s. S·Store .price (s .below) };
 
-    fn make(&mut self, construct: Construct) -> Result<Handle, StoreFault> {
+    // A remembered request is answered from memory; any other goes below, and is noted where it is granted.
+    fn make(&mut self, construct: Construct) -> Result<Handle, StoreFault>
+        requires { ⌜ S·Store .valid (now self .below) × Remembers (S·Store .code (now self .below)) (now self .memory) ⌝ }
+        ensures stays { λ _. ⌜ S·Store .valid (now (self .exit) .below) × Remembers (S·Store .code (now (self .exit) .below)) (now (self .exit) .memory) ⌝ }
+        ensures made { λ r. ⌜ Made (S·Store .code (now (self .entry) .below)) (S·Store .code (now (self .exit) .below)) (S·Store .units (now (self .entry) .below)) (S·Store .units (now (self .exit) .below)) (S·Store .price (now (self .entry) .below)) (S·Store .price (now (self .exit) .below)) construct r ⌝ }
+        ensures shares { λ r. ⌜ Shares (now (self .entry)) construct r (now (self .exit)) ⌝ }
+    {
         if let Some(handle) = self.memory.recall(construct) {
             return Ok(handle);
         }
