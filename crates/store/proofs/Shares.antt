@@ -67,8 +67,8 @@ shared-found f m n price x h v found =
     record { kept = λ k c i. i; prices = λ c. refl; ends = rw some (is, omega arith, omega arith) }
 
 -- the store below granted the request, and it is noted
-pub shared-made : (f g : Codes) (m n : Memory) (had has : ℕ) (price priced : Code → ℕ) (x : Construct) (h : Handle) → Remembers f m → Made f g had has price priced x (Ok h) → Noted m x h n → Remembers g n
-shared-made f g m n had has price priced x h v made a = by (wanted f x) refl (made .ends)
+pub shared-made : (f g : Codes) (m n : Memory) {had has : ℕ} {price priced : Code → ℕ} (x : Construct) (h : Handle) → Remembers f m → Made f g had has price priced x (Ok h) → Noted m x h n → Remembers g n
+shared-made f g m n {had} {has} {price} {priced} x h v made a = by (wanted f x) refl (made .ends)
   where
     by : (w : Result Code StoreFault) → wanted f x ≡ w → Answered f g had has price w (Ok h) → Remembers g n
     by (Err e) is none = absurd none

@@ -1,664 +1,91 @@
+-- The ledger is a store: its law, and each method by its own proof, as Rattle derives it for an impl without a law.
+use Prim.Native.Nat.{ℕ}
+use base.Logic.{id⊢}
+use contract.BorrowLft.{_⊑_, ⊑-refl, ⊑-trans}
+use contract.Running.{givenOf, within}
+use denote.Param.{layouts}
+use denote.Ref.{NamedLft}
+use denote.Triple.End.{outs}
+use denote.Triple.Impl.{implements, insides-in, hidden, inside, to-emp}
+use denote.Triple.Less.{less}
+use denote.Triple.Spec.{tripleOf}
+use denote.Triple.Table.{run-framed, widened}
+use mathlib.Core.Bool.{true}
+use mathlib.Core.List.{[]}
+use mathlib.Core.Path.{refl}
+use mir.Syntax.{Callee, method, erased}
+use Rattle.store.specs.contracts.ledger.Ledger.{the-row}
+use Rattle.store.specs.contracts.ledger.LedgerStore.the-impl.{ghosts, dict}
+use Rattle.store.specs.contracts.ledger.LedgerStore.make as MK
+use Rattle.store.specs.contracts.ledger.LedgerStore.look as LK
+use Rattle.store.specs.contracts.ledger.LedgerStore.free as FR
+use Rattle.store.specs.contracts.meaning.Store.make as MK′
+use Rattle.store.specs.contracts.meaning.Store.look as LK′
+use Rattle.store.specs.contracts.meaning.Store.free as FR′
+use Rattle.store.proofs.ledger.LedgerStore.make.Symbol as mk·sym
+use Rattle.store.proofs.ledger.LedgerStore.make.Met as mk·met
+use Rattle.store.proofs.ledger.LedgerStore.look.Symbol as lk·sym
+use Rattle.store.proofs.ledger.LedgerStore.look.Met as lk·met
+use Rattle.store.proofs.ledger.LedgerStore.free.Symbol as fr·sym
+use Rattle.store.proofs.ledger.LedgerStore.free.Met as fr·met
+use Rattle.store.proofs.ledger.LedgerStore.the-impl.Statement.{statement}
 use Rattle.store.proofs.Sizes.{ledger-small}
-use Rattle.store.proofs.ledger.LedgerStore.free.Met
-use Rattle.store.proofs.ledger.LedgerStore.free.Symbol
-use Rattle.store.proofs.ledger.LedgerStore.look.Met as Met'
-use Rattle.store.proofs.ledger.LedgerStore.look.Symbol as Symbol'
-use Rattle.store.proofs.ledger.LedgerStore.make.Met as Met''
-use Rattle.store.proofs.ledger.LedgerStore.make.Symbol as Symbol''
-use Rattle.store.proofs.ledger.LedgerStore.the-impl.Statement
-use Rattle.store.specs.contracts.ledger.Ledger
-use Rattle.store.specs.contracts.ledger.LedgerStore.free
-use Rattle.store.specs.contracts.ledger.LedgerStore.look
-use Rattle.store.specs.contracts.ledger.LedgerStore.make
-use Rattle.store.specs.contracts.ledger.LedgerStore.the-impl
-use Rattle.store.specs.contracts.meaning.Store.free as free'
-use Rattle.store.specs.contracts.meaning.Store.look as look'
-use Rattle.store.specs.contracts.meaning.Store.make as make'
-use base.Logic
-use contract.BorrowLft
-use contract.Running
-use denote.Param
-use denote.Ref
-use denote.Triple.End
-use denote.Triple.Impl
-use denote.Triple.Less
-use denote.Triple.Spec
-use denote.Triple.Table
-use mathlib.Core.Bool
-use mathlib.Core.List
-use mathlib.Core.Path as Path'
-use mir.Syntax
 
-ruleset ends = (Logic.id⊢, Impl.to-emp, Less.less)
+ruleset ends = (id⊢, to-emp, less)
 
-ruleset parts = (
-  BorrowLft.⊑-refl,
-  BorrowLft.⊑-static,
-  BorrowLft.⊑-meet,
-  Impl.in-left,
-  Impl.in-right,
-)
+abbrev key : ℕ → Callee
+key i = method dict i (layouts [] tt)
 
-pub bound : Statement.statement
-bound = λ γ″' x'5 x'6 x'7 x'8 M' 𝓤' H' 𝓜' 𝓖' 𝓡'. let x'9 : Ref.NamedLft = record {
-  mir = Syntax.erased;
-  lft = x'8;
-} in record {
-  small = ledger-small;
-  make = Impl.implements
-      𝓤'
-      H'
-      (𝓖' .A)
-      make.signature
-      2
-      (make'.ended (Ledger.the-row x'9) the-impl.ghosts the-impl.dict .signature .outlives)
-      (λ τs'. (τs' .0, (x'9 .lft, tt)))
-      (Running.givenOf 𝓤' H' 𝓜' 𝓖')
-      (𝓡' .run (γ″' (Syntax.method the-impl.dict 0 (Param.layouts List.[] tt))))
-      (Table.run-framed
-      𝓤'
-      H'
-      𝓜'
-      𝓡'
-      (γ″' (Syntax.method the-impl.dict 0 (Param.layouts List.[] tt))))
-      (make.spec 𝓤' H' (𝓖' .A) (𝓜' .mem) (𝓡' .returns))
-      (λ τs'' a'. record {
-        ghost = make'.spec
-            (Ledger.the-row x'9)
-            the-impl.ghosts
-            the-impl.dict
-            𝓤'
-            H'
-            (𝓖' .A)
-            (𝓜' .mem)
-            (𝓡' .returns)
-            τs''
-            a' .ghost;
-        requires = λ y'. make'.spec
-            (Ledger.the-row x'9)
-            the-impl.ghosts
-            the-impl.dict
-            𝓤'
-            H'
-            (𝓖' .A)
-            (𝓜' .mem)
-            (𝓡' .returns)
-            τs''
-            a' .requires
-            y';
-        ensures = make'.spec
-            (Ledger.the-row x'9)
-            the-impl.ghosts
-            the-impl.dict
-            𝓤'
-            H'
-            (𝓖' .A)
-            (𝓜' .mem)
-            (𝓡' .returns)
-            τs''
-            a' .ensures;
-      })
-      1
-      (λ τs'3. (τs'3 .1 .0, tt))
-      (λ τs'4. (Ledger.the-row x'9 .lives, tt))
-      ((0, tt), ((1, tt), tt))
-      (λ τs'5 a'' y''. make'.requires-1
-      (Ledger.the-row x'9)
-      the-impl.ghosts
-      the-impl.dict
-      𝓤'
-      H'
-      τs'5
-      (𝓖' .A)
-      (𝓜' .mem)
-      (𝓡' .returns)
-      (a'' .0)
-      (a'' .1 .0))
-      (λ τs'6 a'3 y'3. Logic.id⊢
-      𝓤'
-      (make'.spec
-      (Ledger.the-row x'9)
-      the-impl.ghosts
-      the-impl.dict
-      𝓤'
-      H'
-      (𝓖' .A)
-      (𝓜' .mem)
-      (𝓡' .returns)
-      τs'6
-      a'3 .requires
-      y'3))
-      (λ τs'7 h'. (
-        (
-          BorrowLft.⊑-refl (τs'7 .0),
-          (
-            BorrowLft.⊑-trans
-                (τs'7 .1 .0)
-                (τs'7 .1 .0)
-                (x'9 .lft)
-                (BorrowLft.⊑-refl (τs'7 .1 .0))
-                (BorrowLft.⊑-trans
-                (τs'7 .1 .0)
-                (Ledger.the-row x'9 .lives)
-                (x'9 .lft)
-                (h' .1 .0)
-                (search Impl.inside depth 24 fits 20000)),
-            tt,
-          ),
-        ),
-        (
-          BorrowLft.⊑-trans
-              (τs'7 .0)
-              (τs'7 .1 .0)
-              (x'9 .lft)
-              (BorrowLft.⊑-trans
-              (τs'7 .0)
-              (τs'7 .0)
-              (τs'7 .1 .0)
-              (BorrowLft.⊑-refl (τs'7 .0))
-              (h' .0 .0))
-              (BorrowLft.⊑-trans
-              (τs'7 .1 .0)
-              (Ledger.the-row x'9 .lives)
-              (x'9 .lft)
-              (h' .1 .0)
-              (search Impl.inside depth 24 fits 20000)),
-          tt,
-        ),
-      ))
-      (λ τs'8 a'4 y'4. y'4)
-      (λ τs'9 h'' a'5 y'5. Impl.insides-in
-      𝓤'
-      0
-      tt
-      tt
-      (make'.requires-1
-      (Ledger.the-row x'9)
-      the-impl.ghosts
-      the-impl.dict
-      𝓤'
-      H'
-      τs'9
-      (𝓖' .A)
-      (𝓜' .mem)
-      (𝓡' .returns)
-      (a'5 .0)
-      (a'5 .1 .0))
-      tt)
-      (λ τs'10 a'6 y'6 r'. Impl.hidden
-      2
-      (τs'10 .0, (x'9 .lft, tt))
-      𝓤'
-      H'
-      (𝓖' .A)
-      (make.signature .params)
-      (make.ended .kept)
-      (Bool.true, (Bool.true, tt))
-      a'6
-      (λ ws'. make.clauses
-      𝓤'
-      H'
-      (𝓖' .A)
-      (𝓜' .mem)
-      (𝓡' .returns)
-      (τs'10 .0, (x'9 .lft, tt))
-      a'6 .ensures
-      y'6
-      r'
-      (End.outs {n = 2}
-      (τs'10 .0, (x'9 .lft, tt))
-      (make.ended .signature .params)
-      (make.ended .kept)
-      a'6
-      ws'))
-      (λ ws''. make'.clauses
-      (Ledger.the-row x'9)
-      the-impl.ghosts
-      the-impl.dict
-      𝓤'
-      H'
-      (𝓖' .A)
-      (𝓜' .mem)
-      (𝓡' .returns)
-      τs'10
-      a'6 .ensures
-      y'6
-      r'
-      (End.outs {n = 2}
-      τs'10
-      (make'.ended (Ledger.the-row x'9) the-impl.ghosts the-impl.dict .signature .params)
-      (make'.ended (Ledger.the-row x'9) the-impl.ghosts the-impl.dict .kept)
-      a'6
-      ws''))
-      λ x'10. search ends depth 24 fits 20000)
-      (Table.widened
-      𝓤'
-      H'
-      (Spec.tripleOf
-      𝓤'
-      H'
-      (𝓖' .A)
-      make.signature
-      (make.spec 𝓤' H' (𝓖' .A) (𝓜' .mem) (𝓡' .returns)))
-      𝓜'
-      𝓡'
-      γ″'
-      (γ″' Symbol''.name)
-      (γ″' (Syntax.method the-impl.dict 0 (Param.layouts List.[] tt)))
-      (Symbol''.as-method
-      γ″'
-      x'5
-      (Syntax.method the-impl.dict 0 (Param.layouts List.[] tt))
-      Path'.refl)
-      (Met''.met 𝓤' H' 𝓜' 𝓖' (Running.within 𝓤' H' 𝓜' 𝓡' γ″') x'5));
-  look = Impl.implements
-      𝓤'
-      H'
-      (𝓖' .A)
-      look.signature
-      2
-      (look'.ended (Ledger.the-row x'9) the-impl.ghosts the-impl.dict .signature .outlives)
-      (λ τs'11. (τs'11 .0, (x'9 .lft, tt)))
-      (Running.givenOf 𝓤' H' 𝓜' 𝓖')
-      (𝓡' .run (γ″' (Syntax.method the-impl.dict 1 (Param.layouts List.[] tt))))
-      (Table.run-framed
-      𝓤'
-      H'
-      𝓜'
-      𝓡'
-      (γ″' (Syntax.method the-impl.dict 1 (Param.layouts List.[] tt))))
-      (look.spec 𝓤' H' (𝓖' .A) (𝓜' .mem) (𝓡' .returns))
-      (λ τs'12 a'7. record {
-        ghost = look'.spec
-            (Ledger.the-row x'9)
-            the-impl.ghosts
-            the-impl.dict
-            𝓤'
-            H'
-            (𝓖' .A)
-            (𝓜' .mem)
-            (𝓡' .returns)
-            τs'12
-            a'7 .ghost;
-        requires = λ y'7. look'.spec
-            (Ledger.the-row x'9)
-            the-impl.ghosts
-            the-impl.dict
-            𝓤'
-            H'
-            (𝓖' .A)
-            (𝓜' .mem)
-            (𝓡' .returns)
-            τs'12
-            a'7 .requires
-            y'7;
-        ensures = look'.spec
-            (Ledger.the-row x'9)
-            the-impl.ghosts
-            the-impl.dict
-            𝓤'
-            H'
-            (𝓖' .A)
-            (𝓜' .mem)
-            (𝓡' .returns)
-            τs'12
-            a'7 .ensures;
-      })
-      1
-      (λ τs'13. (τs'13 .1 .0, tt))
-      (λ τs'14. (Ledger.the-row x'9 .lives, tt))
-      ((0, tt), ((1, tt), tt))
-      (λ τs'15 a'8 y'8. look'.requires-1
-      (Ledger.the-row x'9)
-      the-impl.ghosts
-      the-impl.dict
-      𝓤'
-      H'
-      τs'15
-      (𝓖' .A)
-      (𝓜' .mem)
-      (𝓡' .returns)
-      (a'8 .0)
-      (a'8 .1 .0))
-      (λ τs'16 a'9 y'9. Logic.id⊢
-      𝓤'
-      (look'.spec
-      (Ledger.the-row x'9)
-      the-impl.ghosts
-      the-impl.dict
-      𝓤'
-      H'
-      (𝓖' .A)
-      (𝓜' .mem)
-      (𝓡' .returns)
-      τs'16
-      a'9 .requires
-      y'9))
-      (λ τs'17 h'3. (
-        (
-          BorrowLft.⊑-refl (τs'17 .0),
-          (
-            BorrowLft.⊑-trans
-                (τs'17 .1 .0)
-                (τs'17 .1 .0)
-                (x'9 .lft)
-                (BorrowLft.⊑-refl (τs'17 .1 .0))
-                (BorrowLft.⊑-trans
-                (τs'17 .1 .0)
-                (Ledger.the-row x'9 .lives)
-                (x'9 .lft)
-                (h'3 .1 .0)
-                (search Impl.inside depth 24 fits 20000)),
-            tt,
-          ),
-        ),
-        (
-          BorrowLft.⊑-trans
-              (τs'17 .0)
-              (τs'17 .1 .0)
-              (x'9 .lft)
-              (BorrowLft.⊑-trans
-              (τs'17 .0)
-              (τs'17 .0)
-              (τs'17 .1 .0)
-              (BorrowLft.⊑-refl (τs'17 .0))
-              (h'3 .0 .0))
-              (BorrowLft.⊑-trans
-              (τs'17 .1 .0)
-              (Ledger.the-row x'9 .lives)
-              (x'9 .lft)
-              (h'3 .1 .0)
-              (search Impl.inside depth 24 fits 20000)),
-          tt,
-        ),
-      ))
-      (λ τs'18 a'10 y'10. y'10)
-      (λ τs'19 h'4 a'11 y'11. Impl.insides-in
-      𝓤'
-      0
-      tt
-      tt
-      (look'.requires-1
-      (Ledger.the-row x'9)
-      the-impl.ghosts
-      the-impl.dict
-      𝓤'
-      H'
-      τs'19
-      (𝓖' .A)
-      (𝓜' .mem)
-      (𝓡' .returns)
-      (a'11 .0)
-      (a'11 .1 .0))
-      tt)
-      (λ τs'20 a'12 y'12 r''. Impl.hidden
-      2
-      (τs'20 .0, (x'9 .lft, tt))
-      𝓤'
-      H'
-      (𝓖' .A)
-      (look.signature .params)
-      (look.ended .kept)
-      (Bool.true, (Bool.true, tt))
-      a'12
-      (λ ws'3. look.clauses
-      𝓤'
-      H'
-      (𝓖' .A)
-      (𝓜' .mem)
-      (𝓡' .returns)
-      (τs'20 .0, (x'9 .lft, tt))
-      a'12 .ensures
-      y'12
-      r''
-      (End.outs {n = 2}
-      (τs'20 .0, (x'9 .lft, tt))
-      (look.ended .signature .params)
-      (look.ended .kept)
-      a'12
-      ws'3))
-      (λ ws'4. look'.clauses
-      (Ledger.the-row x'9)
-      the-impl.ghosts
-      the-impl.dict
-      𝓤'
-      H'
-      (𝓖' .A)
-      (𝓜' .mem)
-      (𝓡' .returns)
-      τs'20
-      a'12 .ensures
-      y'12
-      r''
-      (End.outs {n = 2}
-      τs'20
-      (look'.ended (Ledger.the-row x'9) the-impl.ghosts the-impl.dict .signature .params)
-      (look'.ended (Ledger.the-row x'9) the-impl.ghosts the-impl.dict .kept)
-      a'12
-      ws'4))
-      λ x'11. search ends depth 24 fits 20000)
-      (Table.widened
-      𝓤'
-      H'
-      (Spec.tripleOf
-      𝓤'
-      H'
-      (𝓖' .A)
-      look.signature
-      (look.spec 𝓤' H' (𝓖' .A) (𝓜' .mem) (𝓡' .returns)))
-      𝓜'
-      𝓡'
-      γ″'
-      (γ″' Symbol'.name)
-      (γ″' (Syntax.method the-impl.dict 1 (Param.layouts List.[] tt)))
-      (Symbol'.as-method
-      γ″'
-      x'6
-      (Syntax.method the-impl.dict 1 (Param.layouts List.[] tt))
-      Path'.refl)
-      (Met'.met 𝓤' H' 𝓜' 𝓖' (Running.within 𝓤' H' 𝓜' 𝓡' γ″') x'6));
-  free = Impl.implements
-      𝓤'
-      H'
-      (𝓖' .A)
-      free.signature
-      2
-      (free'.ended (Ledger.the-row x'9) the-impl.ghosts the-impl.dict .signature .outlives)
-      (λ τs'21. (τs'21 .0, (x'9 .lft, tt)))
-      (Running.givenOf 𝓤' H' 𝓜' 𝓖')
-      (𝓡' .run (γ″' (Syntax.method the-impl.dict 2 (Param.layouts List.[] tt))))
-      (Table.run-framed
-      𝓤'
-      H'
-      𝓜'
-      𝓡'
-      (γ″' (Syntax.method the-impl.dict 2 (Param.layouts List.[] tt))))
-      (free.spec 𝓤' H' (𝓖' .A) (𝓜' .mem) (𝓡' .returns))
-      (λ τs'22 a'13. record {
-        ghost = free'.spec
-            (Ledger.the-row x'9)
-            the-impl.ghosts
-            the-impl.dict
-            𝓤'
-            H'
-            (𝓖' .A)
-            (𝓜' .mem)
-            (𝓡' .returns)
-            τs'22
-            a'13 .ghost;
-        requires = λ y'13. free'.spec
-            (Ledger.the-row x'9)
-            the-impl.ghosts
-            the-impl.dict
-            𝓤'
-            H'
-            (𝓖' .A)
-            (𝓜' .mem)
-            (𝓡' .returns)
-            τs'22
-            a'13 .requires
-            y'13;
-        ensures = free'.spec
-            (Ledger.the-row x'9)
-            the-impl.ghosts
-            the-impl.dict
-            𝓤'
-            H'
-            (𝓖' .A)
-            (𝓜' .mem)
-            (𝓡' .returns)
-            τs'22
-            a'13 .ensures;
-      })
-      1
-      (λ τs'23. (τs'23 .1 .0, tt))
-      (λ τs'24. (Ledger.the-row x'9 .lives, tt))
-      ((0, tt), ((1, tt), tt))
-      (λ τs'25 a'14 y'14. free'.requires-1
-      (Ledger.the-row x'9)
-      the-impl.ghosts
-      the-impl.dict
-      𝓤'
-      H'
-      τs'25
-      (𝓖' .A)
-      (𝓜' .mem)
-      (𝓡' .returns)
-      (a'14 .0))
-      (λ τs'26 a'15 y'15. Logic.id⊢
-      𝓤'
-      (free'.spec
-      (Ledger.the-row x'9)
-      the-impl.ghosts
-      the-impl.dict
-      𝓤'
-      H'
-      (𝓖' .A)
-      (𝓜' .mem)
-      (𝓡' .returns)
-      τs'26
-      a'15 .requires
-      y'15))
-      (λ τs'27 h'5. (
-        (
-          BorrowLft.⊑-refl (τs'27 .0),
-          (
-            BorrowLft.⊑-trans
-                (τs'27 .1 .0)
-                (τs'27 .1 .0)
-                (x'9 .lft)
-                (BorrowLft.⊑-refl (τs'27 .1 .0))
-                (BorrowLft.⊑-trans
-                (τs'27 .1 .0)
-                (Ledger.the-row x'9 .lives)
-                (x'9 .lft)
-                (h'5 .1 .0)
-                (search Impl.inside depth 24 fits 20000)),
-            tt,
-          ),
-        ),
-        (
-          BorrowLft.⊑-trans
-              (τs'27 .0)
-              (τs'27 .1 .0)
-              (x'9 .lft)
-              (BorrowLft.⊑-trans
-              (τs'27 .0)
-              (τs'27 .0)
-              (τs'27 .1 .0)
-              (BorrowLft.⊑-refl (τs'27 .0))
-              (h'5 .0 .0))
-              (BorrowLft.⊑-trans
-              (τs'27 .1 .0)
-              (Ledger.the-row x'9 .lives)
-              (x'9 .lft)
-              (h'5 .1 .0)
-              (search Impl.inside depth 24 fits 20000)),
-          tt,
-        ),
-      ))
-      (λ τs'28 a'16 y'16. y'16)
-      (λ τs'29 h'6 a'17 y'17. Impl.insides-in
-      𝓤'
-      0
-      tt
-      tt
-      (free'.requires-1
-      (Ledger.the-row x'9)
-      the-impl.ghosts
-      the-impl.dict
-      𝓤'
-      H'
-      τs'29
-      (𝓖' .A)
-      (𝓜' .mem)
-      (𝓡' .returns)
-      (a'17 .0))
-      tt)
-      (λ τs'30 a'18 y'18 r'3. Impl.hidden
-      2
-      (τs'30 .0, (x'9 .lft, tt))
-      𝓤'
-      H'
-      (𝓖' .A)
-      (free.signature .params)
-      (free.ended .kept)
-      (Bool.true, tt)
-      a'18
-      (λ ws'5. free.clauses
-      𝓤'
-      H'
-      (𝓖' .A)
-      (𝓜' .mem)
-      (𝓡' .returns)
-      (τs'30 .0, (x'9 .lft, tt))
-      a'18 .ensures
-      y'18
-      r'3
-      (End.outs {n = 2}
-      (τs'30 .0, (x'9 .lft, tt))
-      (free.ended .signature .params)
-      (free.ended .kept)
-      a'18
-      ws'5))
-      (λ ws'6. free'.clauses
-      (Ledger.the-row x'9)
-      the-impl.ghosts
-      the-impl.dict
-      𝓤'
-      H'
-      (𝓖' .A)
-      (𝓜' .mem)
-      (𝓡' .returns)
-      τs'30
-      a'18 .ensures
-      y'18
-      r'3
-      (End.outs {n = 2}
-      τs'30
-      (free'.ended (Ledger.the-row x'9) the-impl.ghosts the-impl.dict .signature .params)
-      (free'.ended (Ledger.the-row x'9) the-impl.ghosts the-impl.dict .kept)
-      a'18
-      ws'6))
-      λ x'12. search ends depth 24 fits 20000)
-      (Table.widened
-      𝓤'
-      H'
-      (Spec.tripleOf
-      𝓤'
-      H'
-      (𝓖' .A)
-      free.signature
-      (free.spec 𝓤' H' (𝓖' .A) (𝓜' .mem) (𝓡' .returns)))
-      𝓜'
-      𝓡'
-      γ″'
-      (γ″' Symbol.name)
-      (γ″' (Syntax.method the-impl.dict 2 (Param.layouts List.[] tt)))
-      (Symbol.as-method
-      γ″'
-      x'7
-      (Syntax.method the-impl.dict 2 (Param.layouts List.[] tt))
-      Path'.refl)
-      (Met.met 𝓤' H' 𝓜' 𝓖' (Running.within 𝓤' H' 𝓜' 𝓡' γ″') x'7));
-}
+pub bound : statement
+bound = λ γ w w′ w″ κ M 𝓤 H 𝓜 𝓖 𝓡.
+    let named : NamedLft = record { mir = erased; lft = κ } in
+    let row = the-row named in
+    let A = 𝓖 .A in
+    let mem = 𝓜 .mem in
+    let ret = 𝓡 .returns in
+    let lives : row .lives ⊑ κ = search inside depth 24 fits 20000 in
+    record {
+      small = ledger-small;
+      make =
+          let spec = MK′.spec row ghosts dict 𝓤 H A mem ret in
+          implements 𝓤 H A MK.signature 2 (MK′.ended row ghosts dict .signature .outlives) (λ τs. (τs .0, (κ, tt))) (givenOf 𝓤 H 𝓜 𝓖)
+          (𝓡 .run (γ (key 0))) (run-framed 𝓤 H 𝓜 𝓡 (γ (key 0))) (MK.spec 𝓤 H A mem ret) (λ τs a. record { ghost = spec τs a .ghost; requires = λ y. spec τs a .requires y; ensures = spec τs a .ensures }) 1 (λ τs. (τs .1 .0, tt)) (λ τs. (row .lives, tt)) ((0, tt), ((1, tt), tt))
+          (λ τs a y. MK′.requires-1 row ghosts dict 𝓤 H τs A mem ret (a .0) (a .1 .0))
+          (λ τs a y. id⊢ 𝓤 (spec τs a .requires y))
+          (λ τs h. let under = ⊑-trans (τs .1 .0) (row .lives) κ (h .1 .0) lives in ((⊑-refl (τs .0), (under, tt)), (⊑-trans (τs .0) (τs .1 .0) κ (h .0 .0) under, tt)))
+          (λ τs a y. y)
+          (λ τs h a y. insides-in 𝓤 0 tt tt (MK′.requires-1 row ghosts dict 𝓤 H τs A mem ret (a .0) (a .1 .0)) tt)
+          (λ τs a y r. hidden 2 (τs .0, (κ, tt)) 𝓤 H A (MK.signature .params) (MK.ended .kept) (true, (true, tt)) a
+            (λ ws. MK.clauses 𝓤 H A mem ret (τs .0, (κ, tt)) a .ensures y r (outs {n = 2} (τs .0, (κ, tt)) (MK.ended .signature .params) (MK.ended .kept) a ws))
+            (λ ws. MK′.clauses row ghosts dict 𝓤 H A mem ret τs a .ensures y r (outs {n = 2} τs (MK′.ended row ghosts dict .signature .params) (MK′.ended row ghosts dict .kept) a ws))
+            (λ _. search ends depth 24 fits 20000))
+          (widened 𝓤 H (tripleOf 𝓤 H A MK.signature (MK.spec 𝓤 H A mem ret)) 𝓜 𝓡 γ (γ mk·sym.name) (γ (key 0)) (mk·sym.as-method γ w (key 0) refl) (mk·met.met 𝓤 H 𝓜 𝓖 (within 𝓤 H 𝓜 𝓡 γ) w));
+      look =
+          let spec = LK′.spec row ghosts dict 𝓤 H A mem ret in
+          implements 𝓤 H A LK.signature 2 (LK′.ended row ghosts dict .signature .outlives) (λ τs. (τs .0, (κ, tt))) (givenOf 𝓤 H 𝓜 𝓖)
+          (𝓡 .run (γ (key 1))) (run-framed 𝓤 H 𝓜 𝓡 (γ (key 1))) (LK.spec 𝓤 H A mem ret) (λ τs a. record { ghost = spec τs a .ghost; requires = λ y. spec τs a .requires y; ensures = spec τs a .ensures }) 1 (λ τs. (τs .1 .0, tt)) (λ τs. (row .lives, tt)) ((0, tt), ((1, tt), tt))
+          (λ τs a y. LK′.requires-1 row ghosts dict 𝓤 H τs A mem ret (a .0) (a .1 .0))
+          (λ τs a y. id⊢ 𝓤 (spec τs a .requires y))
+          (λ τs h. let under = ⊑-trans (τs .1 .0) (row .lives) κ (h .1 .0) lives in ((⊑-refl (τs .0), (under, tt)), (⊑-trans (τs .0) (τs .1 .0) κ (h .0 .0) under, tt)))
+          (λ τs a y. y)
+          (λ τs h a y. insides-in 𝓤 0 tt tt (LK′.requires-1 row ghosts dict 𝓤 H τs A mem ret (a .0) (a .1 .0)) tt)
+          (λ τs a y r. hidden 2 (τs .0, (κ, tt)) 𝓤 H A (LK.signature .params) (LK.ended .kept) (true, (true, tt)) a
+            (λ ws. LK.clauses 𝓤 H A mem ret (τs .0, (κ, tt)) a .ensures y r (outs {n = 2} (τs .0, (κ, tt)) (LK.ended .signature .params) (LK.ended .kept) a ws))
+            (λ ws. LK′.clauses row ghosts dict 𝓤 H A mem ret τs a .ensures y r (outs {n = 2} τs (LK′.ended row ghosts dict .signature .params) (LK′.ended row ghosts dict .kept) a ws))
+            (λ _. search ends depth 24 fits 20000))
+          (widened 𝓤 H (tripleOf 𝓤 H A LK.signature (LK.spec 𝓤 H A mem ret)) 𝓜 𝓡 γ (γ lk·sym.name) (γ (key 1)) (lk·sym.as-method γ w′ (key 1) refl) (lk·met.met 𝓤 H 𝓜 𝓖 (within 𝓤 H 𝓜 𝓡 γ) w′));
+      free =
+          let spec = FR′.spec row ghosts dict 𝓤 H A mem ret in
+          implements 𝓤 H A FR.signature 2 (FR′.ended row ghosts dict .signature .outlives) (λ τs. (τs .0, (κ, tt))) (givenOf 𝓤 H 𝓜 𝓖)
+          (𝓡 .run (γ (key 2))) (run-framed 𝓤 H 𝓜 𝓡 (γ (key 2))) (FR.spec 𝓤 H A mem ret) (λ τs a. record { ghost = spec τs a .ghost; requires = λ y. spec τs a .requires y; ensures = spec τs a .ensures }) 1 (λ τs. (τs .1 .0, tt)) (λ τs. (row .lives, tt)) ((0, tt), ((1, tt), tt))
+          (λ τs a y. FR′.requires-1 row ghosts dict 𝓤 H τs A mem ret (a .0))
+          (λ τs a y. id⊢ 𝓤 (spec τs a .requires y))
+          (λ τs h. let under = ⊑-trans (τs .1 .0) (row .lives) κ (h .1 .0) lives in ((⊑-refl (τs .0), (under, tt)), (⊑-trans (τs .0) (τs .1 .0) κ (h .0 .0) under, tt)))
+          (λ τs a y. y)
+          (λ τs h a y. insides-in 𝓤 0 tt tt (FR′.requires-1 row ghosts dict 𝓤 H τs A mem ret (a .0)) tt)
+          (λ τs a y r. hidden 2 (τs .0, (κ, tt)) 𝓤 H A (FR.signature .params) (FR.ended .kept) (true, tt) a
+            (λ ws. FR.clauses 𝓤 H A mem ret (τs .0, (κ, tt)) a .ensures y r (outs {n = 2} (τs .0, (κ, tt)) (FR.ended .signature .params) (FR.ended .kept) a ws))
+            (λ ws. FR′.clauses row ghosts dict 𝓤 H A mem ret τs a .ensures y r (outs {n = 2} τs (FR′.ended row ghosts dict .signature .params) (FR′.ended row ghosts dict .kept) a ws))
+            (λ _. search ends depth 24 fits 20000))
+          (widened 𝓤 H (tripleOf 𝓤 H A FR.signature (FR.spec 𝓤 H A mem ret)) 𝓜 𝓡 γ (γ fr·sym.name) (γ (key 2)) (fr·sym.as-method γ w″ (key 2) refl) (fr·met.met 𝓤 H 𝓜 𝓖 (within 𝓤 H 𝓜 𝓡 γ) w″));
+    }

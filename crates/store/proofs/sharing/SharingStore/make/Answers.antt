@@ -27,7 +27,7 @@ returns g c =
     let s = c .args .self .now in
     let e = c .in-Continue-handle .ensures tt in
     record {
-      stays = (e .stays, shared-made _ _ (s .memory) (c .note .last .self) _ _ _ _ (c .args .construct) (c .in-Continue-handle .handle) (c .pre .1) (e .made) (c .note .ensures));
+      stays = (e .stays, shared-made (g .S·Store .code (s .below)) (g .S·Store .code (c .make .last .self)) (s .memory) (c .note .last .self) (c .args .construct) (c .in-Continue-handle .handle) (c .pre .1) (e .made) (c .note .ensures));
       made = e .made;
       shares = shares-noted s _ (c .args .construct) (c .in-Continue-handle .handle) (c .in-rest .ensures tt) (c .note .ensures);
     }
