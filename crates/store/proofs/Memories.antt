@@ -67,7 +67,7 @@ noted m n x h v long entries count next =
       next = next;
       newest = ap (λ (l : List Remembered). getD l (m .next) blank) entries ∙ getD-set-same (m .entries) (m .next) e blank (omega (arith, v .within));
       others = λ k other. ap (λ (l : List Remembered). getD l k blank) entries ∙ getD-set-other (m .entries) (m .next) k e blank other;
-      latest = (λ i. turned (next i) (take (count i) (entries i))) ∙ by (cases-lt (m .count) 64);
+      remembers = (λ i. turned (next i) (take (count i) (entries i))) ∙ by (cases-lt (m .count) 64);
     }
   where
     e : Remembered

@@ -20,16 +20,9 @@ use Rattle.store.specs.declared.memory.Remembered.{Remembered}
 use Rattle.store.specs.declared.memory.Memory.{Memory}
 use Rattle.store.specs.declared.sharing.Sharing.{Sharing}
 use Rattle.store.specs.Meaning.{Codes, wanted, Answered, Made}
-use Rattle.store.specs.Memory.{blank, Asked, In-order, Noted, Empty-memory, Remembers}
+use Rattle.store.specs.Memory.{blank, Asked, Noted, Remembers}
 use Rattle.store.specs.Sharing.{Holds, Shares}
 use Rattle.store.proofs.Meanings.{Knows-more, wanted-more}
-
-pub remembers-none : (f : Codes) (m : Memory) → Empty-memory m → Remembers f m
-remembers-none f m e =
-    record {
-      order = record { few = omega (arith, e .count); within = omega (arith, e .next); filling = λ lt. e .next ∙ sym (e .count) };
-      meant = λ k lt. absurd (omega (arith, e .count));
-    }
 
 -- what is remembered stays true where codes are kept
 pub remembers-more : (f g : Codes) (m : Memory) → Knows-more f g → Remembers f m → Remembers g m
@@ -67,8 +60,8 @@ shared-found f m n price x h v found =
     record { kept = λ k c i. i; prices = λ c. refl; ends = rw some (is, omega arith, omega arith) }
 
 -- the store below granted the request, and it is noted
-pub shared-made : (f g : Codes) (m n : Memory) {had has : ℕ} {price priced : Code → ℕ} (x : Construct) (h : Handle) → Remembers f m → Made f g had has price priced x (Ok h) → Noted m x h n → Remembers g n
-shared-made f g m n {had} {has} {price} {priced} x h v made a = by (wanted f x) refl (made .ends)
+pub shared-made : (f g : Codes) (m n : Memory) (had has : ℕ) (price priced : Code → ℕ) (x : Construct) (h : Handle) → Remembers f m → Made f g had has price priced x (Ok h) → Noted m x h n → Remembers g n
+shared-made f g m n had has price priced x h v made a = by (wanted f x) refl (made .ends)
   where
     by : (w : Result Code StoreFault) → wanted f x ≡ w → Answered f g had has price w (Ok h) → Remembers g n
     by (Err e) is none = absurd none

@@ -53,7 +53,7 @@ pub record Noted (m : Memory) (x : Construct) (h : Handle) (n : Memory) : Type 0
   pub next : n .next ≡ (m .next + 1) % 64
   pub newest : getD (n .entries) (m .next) blank ≡ record { request = x; handle = h }
   pub others : (k : ℕ) → (k ≡ m .next → ⊥) → getD (n .entries) k blank ≡ getD (m .entries) k blank
-  pub latest : remembered n ≡ latest 64 (remembered m ++ (record { request = x; handle = h } ∷ []))
+  pub remembers : remembered n ≡ latest 64 (remembered m ++ (record { request = x; handle = h } ∷ []))
 
 -- nothing is remembered
 pub record Empty-memory (m : Memory) : Type 0 where

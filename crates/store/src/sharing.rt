@@ -63,7 +63,8 @@ impl<S: Store> Sharing<S> {
         ensures fresh { λ r. ⌜ Fresh-layer below r ⌝ }
         ensures valid { λ r. ⌜ (S·Store .valid below → S·Store .valid (r .below) × Remembers (S·Store .code (r .below)) (r .memory)) ⌝ }
     {
-        Sharing { below, memory: Memory::new() }
+        let memory = Memory::new();
+        Sharing { below, memory }
     }
 }
 

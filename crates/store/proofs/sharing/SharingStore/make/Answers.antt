@@ -26,8 +26,14 @@ pub returns : need.returns
 returns g c =
     let s = c .args .self .now in
     let e = c .in-Continue-handle .ensures tt in
+    let store = g .S·Store in
+    let below = c .make .last .self in
+    let memory = c .note .last .self in
+    let kept =
+        shared-made (store .code (s .below)) (store .code below) (s .memory) memory (store .units (s .below)) (store .units below) (store .price (s .below)) (store .price below)
+        (c .args .construct) (c .in-Continue-handle .handle) (c .pre .1) (e .made) (c .note .ensures) in
     record {
-      stays = (e .stays, shared-made (g .S·Store .code (s .below)) (g .S·Store .code (c .make .last .self)) (s .memory) (c .note .last .self) (c .args .construct) (c .in-Continue-handle .handle) (c .pre .1) (e .made) (c .note .ensures));
+      stays = (e .stays, kept);
       made = e .made;
-      shares = shares-noted s _ (c .args .construct) (c .in-Continue-handle .handle) (c .in-rest .ensures tt) (c .note .ensures);
+      shares = shares-noted s (record { below = below; memory = memory }) (c .args .construct) (c .in-Continue-handle .handle) (c .in-rest .ensures tt) (c .note .ensures);
     }
