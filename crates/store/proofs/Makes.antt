@@ -1,15 +1,13 @@
 -- What a call of `make` does to a ledger.
-use Prim.Native.Nat.{ℕ, _+_, _-_, _≤_, _<_, min}
+use Prim.Native.Nat.{ℕ, _+_, _-_, _≤_, _<_}
 use mathlib.Core.Path.{_≡_, refl, sym, ap, _∙_, subst}
 use mathlib.Core.List.{List, [], _∷_, _++_}
-use mathlib.Core.Bool.{Bool, true, false}
 use mathlib.Core.Logic.{_⊎_, inl, inr}
-use lib.ListN.{length, take, getD, set, length-set}
+use lib.ListN.{length, take, set, length-set}
 use denote.Ref.{now}
 use native.Mathlib.Omega.{arith}
-use borrow.Author.Needs.{needs}
 use Rattle.std.proofs.shelf.Lists.{take-more-set, getD-append-left, getD-push}
-use Rattle.std.proofs.shelf.Tests.{cases-lt, le-leb, lt-leb, cond-true, cond-false}
+use Rattle.std.proofs.shelf.Tests.{cases-lt, le-leb, lt-leb}
 use Rattle.std.specs.declared.option.Option.{Option}
 use Rattle.std.specs.declared.option.Option.the-variants.{None, Some}
 use Rattle.std.specs.declared.result.Result.the-variants.{Ok, Err}
@@ -19,10 +17,10 @@ use Rattle.code.specs.Code.{Code, size}
 use Rattle.store.specs.declared.row.Row.{Row}
 use Rattle.store.specs.declared.ledger.Ledger.{Ledger}
 use Rattle.store.specs.declared.meaning.StoreFault.the-variants.{BadArgument, TooLarge, NoRoom}
-use Rattle.store.specs.Meaning.{Codes, meant, wanted, Unaltered, Answered, Made}
+use Rattle.store.specs.Meaning.{meant, Made}
 use Rattle.store.specs.Ledger.{rows-code, code-of, units-left, one-each, Sound, Row-sound, blank, asked-size}
 use Rattle.store.proofs.Rows.{code-kept, code-older, code-newest}
-use Rattle.store.proofs.Sizes.{long-front, asked-none, asked-some, Sized}
+use Rattle.store.proofs.Sizes.{long-front, asked-none, asked-some}
 
 pub made-bad : (s : Ledger) (x : Construct) → Sound s → None ≡ asked-size (now (s .rows)) (s .used) x → Made (code-of s) (code-of s) (units-left s) (units-left s) (one-each s) (one-each s) x (Err BadArgument)
 made-bad s x v e =

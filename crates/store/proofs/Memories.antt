@@ -1,12 +1,11 @@
 -- What one note more does to what is remembered.
 use Prim.Native.Nat.{ℕ, _+_, _-_, _%_, _≤_, _<_, min}
-use mathlib.Core.Path.{_≡_, refl, sym, ap, _∙_, subst}
+use mathlib.Core.Path.{_≡_, refl, sym, ap, _∙_}
 use mathlib.Core.List.{List, [], _∷_, _++_, append-assoc}
 use mathlib.Core.Logic.{_⊎_, inl, inr}
-use lib.ListN.{length, take, drop, getD, set, length-set, length-drop, length-append, length-take}
+use lib.ListN.{length, take, drop, getD, set, length-set, length-drop, length-append}
 use native.Mathlib.Omega.{arith}
-use borrow.Author.Needs.{needs}
-use Rattle.std.proofs.shelf.Lists.{append-nil, take-all, take-take, drop-all, drop-more, drop-set-lt, take-more-set, length-take-le, length-push, getD-set-same, getD-set-other, getD-take}
+use Rattle.std.proofs.shelf.Lists.{append-nil, take-all, drop-all, drop-more, drop-set-lt, take-more-set, length-take-le, length-push, getD-set-same, getD-set-other, getD-take}
 use Rattle.std.proofs.shelf.Tests.{cases-lt}
 use Rattle.code.specs.declared.construct.Handle.{Handle}
 use Rattle.code.specs.declared.construct.Construct.{Construct}
@@ -72,6 +71,7 @@ noted m n x h v long entries count next =
   where
     e : Remembered
     e = record { request = x; handle = h }
+
     by : (m .count < 64) ⊎ (64 ≤ m .count) → turned ((m .next + 1) % 64) (take (min (m .count + 1) 64) (set (m .entries) (m .next) e)) ≡ latest 64 (remembered m ++ (e ∷ []))
     by (inl lt) =
         let last : m .next ≡ m .count = v .filling lt in
@@ -100,8 +100,9 @@ recalled-none m x long few first k lt e =
 
 pub recalled-some : (m : Memory) (x : Construct) (i : ℕ) → length (m .entries) ≡ 64 → m .count ≤ 64 → First same-request (sought x) (take (m .count - 0) (m .entries)) (Some i) → Asked m x (Some (getD (m .entries) i blank .handle))
 recalled-some m x i long few first =
-    let lt : i < m .count = omega (arith, first .0, front m long few) in
-    ( i
-    , lt
-    , sym (ap (λ (y : Remembered). y .request) (getD-take (m .count - 0) (m .entries) i blank (omega arith))) ∙ first .1 blank
-    , refl )
+    let lt : i < m .count = omega (arith, first .0, front m long few) in (
+      i,
+      lt,
+      sym (ap (λ (y : Remembered). y .request) (getD-take (m .count - 0) (m .entries) i blank (omega arith))) ∙ first .1 blank,
+      refl,
+    )

@@ -13,7 +13,7 @@ use Rattle.std.specs.declared.option.Option.the-variants.{None, Some}
 use Rattle.code.specs.declared.construct.Handle.{Handle}
 use Rattle.code.specs.Code.{Code}
 use Rattle.store.specs.declared.row.Row.{Row}
-use Rattle.store.specs.Meaning.{Codes, meant}
+use Rattle.store.specs.Meaning.{meant}
 use Rattle.store.specs.Ledger.{at, onto, rows-code}
 use Rattle.store.proofs.Meanings.{Knows-more, meant-more}
 

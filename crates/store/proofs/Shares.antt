@@ -1,6 +1,6 @@
 -- What a call of `make` does to a sharing layer, by what it does to the store below.
-use Prim.Native.Nat.{ℕ, _+_, _≤_, _<_, min}
-use mathlib.Core.Path.{_≡_, refl, sym, ap, _∙_, subst}
+use Prim.Native.Nat.{ℕ, _≤_, _<_}
+use mathlib.Core.Path.{_≡_, refl, sym, ap, _∙_}
 use mathlib.Core.Logic.{_⊎_, inl, inr}
 use lib.ListN.{getD}
 use native.Mathlib.Omega.{arith}
@@ -42,6 +42,7 @@ remembers-note f m n x h c v a w is = record { order = a .order; meant = λ k lt
         by-order (inl p) = p
         by-order (inr p) = absurd (other (omega (arith, a .count, v .order .filling l)))
     older k lt other (inr l) = omega (arith, a .count)
+
     by : (k : ℕ) → k < n .count → (k ≡ m .next) ⊎ (k ≡ m .next → ⊥) → (d : Code) × (wanted f (getD (n .entries) k blank .request) ≡ Ok d) × (f (getD (n .entries) k blank .handle) ≡ Some d)
     by k lt (inl e) =
         let q : getD (n .entries) k blank ≡ record { request = x; handle = h } = ap (λ (j : ℕ). getD (n .entries) j blank) e ∙ a .newest in

@@ -2,7 +2,6 @@
 use Prim.Native.Nat.{ℕ, _+_, _≤_, _<_}
 use mathlib.Core.Path.{_≡_, refl, sym, ap, _∙_, subst}
 use mathlib.Core.Bool.{Bool, true, false, cond}
-use mathlib.Core.List.{List}
 use mathlib.Core.Logic.{_⊎_, inl, inr}
 use lib.Dec.{ltb, leb}
 use lib.ListN.{length, take, getD}
@@ -10,7 +9,7 @@ use denote.Ref.{now}
 use native.Mathlib.Omega.{arith}
 use borrow.Author.Needs.{needs}
 use Rattle.std.proofs.shelf.Lists.{getD-take, length-take-le}
-use Rattle.std.proofs.shelf.Tests.{cases-lt, lt-ltb, le-ltb, le-leb, lt-leb, cond-true, cond-false}
+use Rattle.std.proofs.shelf.Tests.{cases-lt, lt-ltb, le-ltb, cond-true, cond-false}
 use Rattle.std.specs.declared.option.Option.{Option}
 use Rattle.std.specs.declared.option.Option.the-variants.{None, Some}
 use Rattle.std.specs.declared.result.Result.{Result}
@@ -24,8 +23,8 @@ use Rattle.store.specs.declared.row.Row.{Row}
 use Rattle.store.specs.declared.ledger.Ledger.{Ledger}
 use Rattle.store.specs.declared.meaning.StoreFault.{StoreFault}
 use Rattle.store.specs.declared.meaning.StoreFault.the-variants.{BadArgument, TooLarge}
-use Rattle.store.specs.Meaning.{Codes, over1, over2, over3, meant, in-range, sized, wanted}
-use Rattle.store.specs.Ledger.{rows-code, code-of, Sound, Row-sound, blank, size-of-row, plus1, plus2, plus3, row-size, asked-size}
+use Rattle.store.specs.Meaning.{over1, over2, over3, meant, in-range, sized, wanted}
+use Rattle.store.specs.Ledger.{code-of, Sound, blank, size-of-row, plus1, plus2, plus3, row-size, asked-size}
 use Rattle.store.proofs.Rows.{code-past, known-within}
 
 abbrev pub size-of : Option Code → Option ℕ

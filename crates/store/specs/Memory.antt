@@ -12,7 +12,6 @@ use Rattle.code.specs.declared.construct.Construct.the-variants.{Number}
 use Rattle.code.specs.Code.{Code}
 use Rattle.store.specs.declared.memory.Remembered.{Remembered}
 use Rattle.store.specs.declared.memory.Memory.{Memory}
-use Rattle.store.specs.declared.meaning.StoreFault.{StoreFault}
 use Rattle.std.specs.declared.result.Result.the-variants.{Ok}
 use Rattle.store.specs.Meaning.{Codes, wanted}
 

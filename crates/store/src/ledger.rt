@@ -3,11 +3,11 @@ ghost use mathlib.Core.Path.{_≡_};
 ghost use Prim.Native.Nat.{ℕ, _<_, _≤_};
 ghost use lib.ListN.{length};
 ghost use Rattle.store.specs.Ledger.{Sound, code-of, units-left, one-each, asked-size, size-of-row, plus1, plus2, plus3, Fresh};
-use code::construct::Construct;
-use code::construct::Handle;
 use crate::meaning::Store;
 use crate::meaning::StoreFault;
 use crate::row::Row;
+use code::construct::Construct;
+use code::construct::Handle;
 
 // The most rows that a ledger uses.
 pub const MOST_ROWS: usize = 65_536;
@@ -41,7 +41,11 @@ impl<'a> Ledger<'a> {
         ensures { λ r. ⌜ r ≡ size-of-row (now (now (self .entry) .rows)) (now (self .entry) .used) handle ⌝ }
     {
         let at = handle.number as usize;
-        if at < self.used { Some(self.rows[at].size) } else { None }
+        if at < self.used {
+            Some(self.rows[at].size)
+        } else {
+            None
+        }
     }
 
     // The size that the construct would have, none for an unknown handle or a number outside its range.
@@ -60,10 +64,18 @@ impl<'a> Ledger<'a> {
                 over_three(self.size_at(a), self.size_at(b), self.size_at(d))
             }
             Construct::Function(serial, _, body) => {
-                if serial < SERIALS { over_one(self.size_at(body)) } else { None }
+                if serial < SERIALS {
+                    over_one(self.size_at(body))
+                } else {
+                    None
+                }
             }
             Construct::Let(serial, bound, body) => {
-                if serial < SERIALS { over_two(self.size_at(bound), self.size_at(body)) } else { None }
+                if serial < SERIALS {
+                    over_two(self.size_at(bound), self.size_at(body))
+                } else {
+                    None
+                }
             }
         }
     }
@@ -89,14 +101,21 @@ pub impl<'a> Store for Ledger<'a> as LedgerStore {
         if at >= self.rows.len() || at >= MOST_ROWS {
             return Err(StoreFault::NoRoom { wanted: 1, free: 0 });
         }
-        self.rows[at] = Row { construct, size: size as u16 };
+        self.rows[at] = Row {
+            construct,
+            size: size as u16,
+        };
         self.used = at + 1;
         Ok(Handle { number: at as u32 })
     }
 
     fn look(&self, handle: Handle) -> Option<Construct> {
         let at = handle.number as usize;
-        if at < self.used { Some(self.rows[at].construct) } else { None }
+        if at < self.used {
+            Some(self.rows[at].construct)
+        } else {
+            None
+        }
     }
 
     fn free(&self) -> usize {

@@ -4,14 +4,14 @@ ghost use Prim.Native.Nat.{ℕ, _<_, _≤_};
 ghost use Rattle.store.specs.Meaning.{Made};
 ghost use Rattle.store.specs.Sharing.{Fresh-layer, Shares};
 ghost use Rattle.store.specs.Memory.{Asked, same-request, In-order, Noted, Remembers, Empty-memory};
-use code::construct::Construct;
-use code::construct::Handle;
 use crate::meaning::Store;
 use crate::meaning::StoreFault;
 use crate::memory::Memory;
 use crate::memory::Remembered;
 use crate::search::Sameness;
 use crate::search::find;
+use code::construct::Construct;
+use code::construct::Handle;
 
 pub impl Sameness for Remembered as SameRequest {
     ghost same = { same-request };
@@ -26,8 +26,15 @@ impl Memory {
     pub fn new() -> Memory
         ensures { λ r. ⌜ Empty-memory r ⌝ }
     {
-        let blank = Remembered { request: Construct::Number(0), handle: Handle { number: 0 } };
-        Memory { entries: [blank; 64], count: 0, next: 0 }
+        let blank = Remembered {
+            request: Construct::Number(0),
+            handle: Handle { number: 0 },
+        };
+        Memory {
+            entries: [blank; 64],
+            count: 0,
+            next: 0,
+        }
     }
 
     // The handle that answered the request, where it is remembered.
@@ -35,7 +42,10 @@ impl Memory {
         requires { ⌜ now self .count ≤ 64 ⌝ }
         ensures { λ r. ⌜ Asked (now (self .entry)) request r ⌝ }
     {
-        let wanted = Remembered { request, handle: Handle { number: 0 } };
+        let wanted = Remembered {
+            request,
+            handle: Handle { number: 0 },
+        };
         let place = find(&self.entries[0..self.count], &wanted)?;
         Some(self.entries[place].handle)
     }

@@ -1,4 +1,3 @@
-use mathlib.Core.Path.{refl}
 use native.Mathlib.Omega.{arith}
 use Rattle.store.proofs.Rows.{code-none}
 use Rattle.store.proofs.ledger.Ledger.new.Needs as need

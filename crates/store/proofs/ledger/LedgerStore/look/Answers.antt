@@ -1,6 +1,5 @@
 use mathlib.Core.Path.{_≡_, sym, _∙_, ap}
-use Prim.Native.Nat.{ℕ}
-use lib.ListN.{length, take}
+use lib.ListN.{take}
 use native.Mathlib.Omega.{arith}
 use borrow.Author.Needs.{needs}
 use Rattle.std.proofs.shelf.Lists.{getD-take}
@@ -18,11 +17,12 @@ pub returns-then-at-self : need.returns-then-at-self
 returns-then-at-self c =
     let s = c .args .self .now in
     let h = c .args .handle in
-    let r = c .pre .sound (h .number) (c .if-at-self .taken) in
-    ( r .stands
-      ∙ sym (code-is (take (s .used) (s .rows .now)) h blank (r .code) (r .stands))
-      ∙ ap (λ (row : Row). meant (code-of s) (row .construct)) (getD-take (s .used) (s .rows .now) (h .number) blank (c .if-at-self .taken))
-    , λ none. let z : _≡_ {A = Option Code} (Some (r .code)) None = sym (r .stands) ∙ none in absurd (search needs) )
+    let r = c .pre .sound (h .number) (c .if-at-self .taken) in (
+      r .stands
+          ∙ sym (code-is (take (s .used) (s .rows .now)) h blank (r .code) (r .stands))
+          ∙ ap (λ (row : Row). meant (code-of s) (row .construct)) (getD-take (s .used) (s .rows .now) (h .number) blank (c .if-at-self .taken)),
+      λ none. let z : _≡_ {A = Option Code} (Some (r .code)) None = sym (r .stands) ∙ none in absurd (search needs),
+    )
 
 pub returns-else-at-self : need.returns-else-at-self
 returns-else-at-self c =

@@ -1,7 +1,5 @@
-use mathlib.Core.Path.{_≡_, refl, sym, _∙_}
-use Prim.Native.Nat.{_≤_, _<_}
+use mathlib.Core.Path.{_≡_, refl}
 use native.Mathlib.Omega.{arith}
-use borrow.Author.Needs.{needs}
 use Rattle.store.specs.Ledger.{units-left}
 use Rattle.store.proofs.Makes.{made-bad, made-large, made-full, made-pushed}
 use Rattle.store.proofs.ledger.LedgerStore.make.Needs as need
@@ -17,7 +15,7 @@ returns-then-size-from c =
 pub returns-then-at-self : need.returns-then-at-self
 returns-then-at-self c =
     let none : units-left (c .args .self .now) ≡ 0 =
-        elim (c .then-at-self .came) [ then-at-self·by·then-at-self w ↦ omega arith | then-at-self·by·else-at-self·then-at-ge-MOST-ROWS w ↦ omega arith ] in
+    elim (c .then-at-self .came) [ then-at-self·by·then-at-self w ↦ omega arith | then-at-self·by·else-at-self·then-at-ge-MOST-ROWS w ↦ omega arith ] in
     record { stays = c .pre; made = made-full (c .args .self .now) (c .args .construct) (c .in-Some .size) (c .pre) (c .in-Some .ensures tt) (omega arith) none }
 
 pub returns : need.returns

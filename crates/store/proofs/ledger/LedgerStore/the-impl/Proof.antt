@@ -56,9 +56,9 @@ bound = λ γ w w′ w″ κ M 𝓤 H 𝓜 𝓖 𝓡.
           (λ τs a y. y)
           (λ τs h a y. insides-in 𝓤 0 tt tt (MK′.requires-1 row ghosts dict 𝓤 H τs A mem ret (a .0) (a .1 .0)) tt)
           (λ τs a y r. hidden 2 (τs .0, (κ, tt)) 𝓤 H A (MK.signature .params) (MK.ended .kept) (true, (true, tt)) a
-            (λ ws. MK.clauses 𝓤 H A mem ret (τs .0, (κ, tt)) a .ensures y r (outs {n = 2} (τs .0, (κ, tt)) (MK.ended .signature .params) (MK.ended .kept) a ws))
-            (λ ws. MK′.clauses row ghosts dict 𝓤 H A mem ret τs a .ensures y r (outs {n = 2} τs (MK′.ended row ghosts dict .signature .params) (MK′.ended row ghosts dict .kept) a ws))
-            (λ _. search ends depth 24 fits 20000))
+          (λ ws. MK.clauses 𝓤 H A mem ret (τs .0, (κ, tt)) a .ensures y r (outs {n = 2} (τs .0, (κ, tt)) (MK.ended .signature .params) (MK.ended .kept) a ws))
+          (λ ws. MK′.clauses row ghosts dict 𝓤 H A mem ret τs a .ensures y r (outs {n = 2} τs (MK′.ended row ghosts dict .signature .params) (MK′.ended row ghosts dict .kept) a ws))
+          (λ _. search ends depth 24 fits 20000))
           (widened 𝓤 H (tripleOf 𝓤 H A MK.signature (MK.spec 𝓤 H A mem ret)) 𝓜 𝓡 γ (γ mk·sym.name) (γ (key 0)) (mk·sym.as-method γ w (key 0) refl) (mk·met.met 𝓤 H 𝓜 𝓖 (within 𝓤 H 𝓜 𝓡 γ) w));
       look =
           let spec = LK′.spec row ghosts dict 𝓤 H A mem ret in
@@ -70,9 +70,9 @@ bound = λ γ w w′ w″ κ M 𝓤 H 𝓜 𝓖 𝓡.
           (λ τs a y. y)
           (λ τs h a y. insides-in 𝓤 0 tt tt (LK′.requires-1 row ghosts dict 𝓤 H τs A mem ret (a .0) (a .1 .0)) tt)
           (λ τs a y r. hidden 2 (τs .0, (κ, tt)) 𝓤 H A (LK.signature .params) (LK.ended .kept) (true, (true, tt)) a
-            (λ ws. LK.clauses 𝓤 H A mem ret (τs .0, (κ, tt)) a .ensures y r (outs {n = 2} (τs .0, (κ, tt)) (LK.ended .signature .params) (LK.ended .kept) a ws))
-            (λ ws. LK′.clauses row ghosts dict 𝓤 H A mem ret τs a .ensures y r (outs {n = 2} τs (LK′.ended row ghosts dict .signature .params) (LK′.ended row ghosts dict .kept) a ws))
-            (λ _. search ends depth 24 fits 20000))
+          (λ ws. LK.clauses 𝓤 H A mem ret (τs .0, (κ, tt)) a .ensures y r (outs {n = 2} (τs .0, (κ, tt)) (LK.ended .signature .params) (LK.ended .kept) a ws))
+          (λ ws. LK′.clauses row ghosts dict 𝓤 H A mem ret τs a .ensures y r (outs {n = 2} τs (LK′.ended row ghosts dict .signature .params) (LK′.ended row ghosts dict .kept) a ws))
+          (λ _. search ends depth 24 fits 20000))
           (widened 𝓤 H (tripleOf 𝓤 H A LK.signature (LK.spec 𝓤 H A mem ret)) 𝓜 𝓡 γ (γ lk·sym.name) (γ (key 1)) (lk·sym.as-method γ w′ (key 1) refl) (lk·met.met 𝓤 H 𝓜 𝓖 (within 𝓤 H 𝓜 𝓡 γ) w′));
       free =
           let spec = FR′.spec row ghosts dict 𝓤 H A mem ret in
@@ -84,8 +84,8 @@ bound = λ γ w w′ w″ κ M 𝓤 H 𝓜 𝓖 𝓡.
           (λ τs a y. y)
           (λ τs h a y. insides-in 𝓤 0 tt tt (FR′.requires-1 row ghosts dict 𝓤 H τs A mem ret (a .0)) tt)
           (λ τs a y r. hidden 2 (τs .0, (κ, tt)) 𝓤 H A (FR.signature .params) (FR.ended .kept) (true, tt) a
-            (λ ws. FR.clauses 𝓤 H A mem ret (τs .0, (κ, tt)) a .ensures y r (outs {n = 2} (τs .0, (κ, tt)) (FR.ended .signature .params) (FR.ended .kept) a ws))
-            (λ ws. FR′.clauses row ghosts dict 𝓤 H A mem ret τs a .ensures y r (outs {n = 2} τs (FR′.ended row ghosts dict .signature .params) (FR′.ended row ghosts dict .kept) a ws))
-            (λ _. search ends depth 24 fits 20000))
+          (λ ws. FR.clauses 𝓤 H A mem ret (τs .0, (κ, tt)) a .ensures y r (outs {n = 2} (τs .0, (κ, tt)) (FR.ended .signature .params) (FR.ended .kept) a ws))
+          (λ ws. FR′.clauses row ghosts dict 𝓤 H A mem ret τs a .ensures y r (outs {n = 2} τs (FR′.ended row ghosts dict .signature .params) (FR′.ended row ghosts dict .kept) a ws))
+          (λ _. search ends depth 24 fits 20000))
           (widened 𝓤 H (tripleOf 𝓤 H A FR.signature (FR.spec 𝓤 H A mem ret)) 𝓜 𝓡 γ (γ fr·sym.name) (γ (key 2)) (fr·sym.as-method γ w″ (key 2) refl) (fr·met.met 𝓤 H 𝓜 𝓖 (within 𝓤 H 𝓜 𝓡 γ) w″));
     }

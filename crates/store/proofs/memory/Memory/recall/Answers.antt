@@ -1,6 +1,5 @@
 use mathlib.Core.Path.{_≡_, sym, subst}
 use lib.ListN.{length}
-use native.Mathlib.Omega.{arith}
 use borrow.Author.Needs.{needs}
 use Rattle.store.specs.Memory.{Asked}
 use Rattle.store.proofs.Memories.{recalled-none, recalled-some}

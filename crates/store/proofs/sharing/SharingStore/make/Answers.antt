@@ -30,8 +30,8 @@ returns g c =
     let below = c .make .last .self in
     let memory = c .note .last .self in
     let kept =
-        shared-made (store .code (s .below)) (store .code below) (s .memory) memory (store .units (s .below)) (store .units below) (store .price (s .below)) (store .price below)
-        (c .args .construct) (c .in-Continue-handle .handle) (c .pre .1) (e .made) (c .note .ensures) in
+    shared-made (store .code (s .below)) (store .code below) (s .memory) memory (store .units (s .below)) (store .units below) (store .price (s .below)) (store .price below)
+    (c .args .construct) (c .in-Continue-handle .handle) (c .pre .1) (e .made) (c .note .ensures) in
     record {
       stays = (e .stays, kept);
       made = e .made;
