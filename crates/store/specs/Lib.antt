@@ -2,3 +2,4 @@ pub mod Meaning
 pub mod Search
 pub mod Ledger
 pub mod Memory
+pub mod Sharing

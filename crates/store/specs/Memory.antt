@@ -1,5 +1,5 @@
 -- What a sharing layer remembers: the last 64 requests that were granted below, the oldest first.
-use Prim.Native.Nat.{ℕ, _+_, _-_, _%_, _<_, _≤_}
+use Prim.Native.Nat.{ℕ, _+_, _-_, _%_, _<_, _≤_, min}
 use mathlib.Core.Path.{_≡_}
 use mathlib.Core.List.{List, [], _∷_, _++_}
 use lib.IntN.{pos}
@@ -12,7 +12,6 @@ use Rattle.code.specs.declared.construct.Construct.the-variants.{Number}
 use Rattle.code.specs.Code.{Code}
 use Rattle.store.specs.declared.memory.Remembered.{Remembered}
 use Rattle.store.specs.declared.memory.Memory.{Memory}
-use Rattle.store.specs.declared.meaning.StoreFault.{StoreFault}
 use Rattle.std.specs.declared.result.Result.the-variants.{Ok}
 use Rattle.store.specs.Meaning.{Codes, wanted}
 
@@ -23,9 +22,13 @@ same-request x y = x .request ≡ y .request
 abbrev pub blank : Remembered
 blank = record { request = Number (pos 0); handle = record { number = 0 } }
 
+-- a list begun at the place n, with what stands before n at its end
+abbrev pub turned : {A : Type 0} → ℕ → List A → List A
+turned n xs = drop n xs ++ take n xs
+
 -- the entries, the oldest first
 abbrev pub remembered : Memory → List Remembered
-remembered m = drop (m .next) (take (m .count) (m .entries)) ++ take (m .next) (take (m .count) (m .entries))
+remembered m = turned (m .next) (take (m .count) (m .entries))
 
 -- the handle of the entry with the request, or that no entry has it
 abbrev pub Asked : Memory → Construct → Option Handle → Type 0
@@ -42,14 +45,20 @@ pub record In-order (m : Memory) : Type 0 where
   pub within : m .next < 64
   pub filling : m .count < 64 → m .next ≡ m .count
 
--- one request more; past 64 the oldest is forgotten
+-- one request more at the next place; past 64 the oldest is forgotten
 pub record Noted (m : Memory) (x : Construct) (h : Handle) (n : Memory) : Type 0 where
-  pub few : n .count ≤ 64
-  pub within : n .next < 64
+  pub order : In-order n
+  pub count : n .count ≡ min (m .count + 1) 64
+  pub next : n .next ≡ (m .next + 1) % 64
+  pub newest : getD (n .entries) (m .next) blank ≡ record { request = x; handle = h }
+  pub others : (k : ℕ) → (k ≡ m .next → ⊥) → getD (n .entries) k blank ≡ getD (m .entries) k blank
+  pub remembers : remembered n ≡ latest 64 (remembered m ++ (record { request = x; handle = h } ∷ []))
 
+-- nothing is remembered
 pub record Empty-memory (m : Memory) : Type 0 where
-  pub none : m .count ≡ 0
-  pub first : m .next ≡ 0
+  pub count : m .count ≡ 0
+  pub next : m .next ≡ 0
+  pub empty : remembered m ≡ []
 
 -- each entry's handle stands for what its request asks for
 pub record Remembers (code : Codes) (m : Memory) : Type 0 where

@@ -2,18 +2,24 @@
 ghost use mathlib.Core.Path.{_≡_};
 ghost use Prim.Native.Nat.{ℕ, _<_, _≤_};
 ghost use lib.ListN.{length};
-ghost use Rattle.store.specs.Ledger.{Sound, code-of, units-left, one-each, asked-size, size-of-row, Fresh};
-use code::construct::Construct;
-use code::construct::Handle;
+ghost use Rattle.store.specs.Ledger.{Sound, code-of, units-left, one-each, asked-size, size-of-row, plus1, plus2, plus3, Fresh};
 use crate::meaning::Store;
 use crate::meaning::StoreFault;
 use crate::row::Row;
+use code::construct::Construct;
+use code::construct::Handle;
 
 // The most rows that a ledger uses.
 pub const MOST_ROWS: usize = 65_536;
 
 // The largest code that a store makes.
 pub const LARGEST: u16 = 4096;
+
+// Inputs are numbered below this.
+const INPUTS: u8 = 8;
+
+// Serials are numbered below this.
+const SERIALS: u16 = 4096;
 
 #[derive(Drop)]
 pub struct Ledger<'a> {
@@ -28,6 +34,51 @@ impl<'a> Ledger<'a> {
     {
         Ledger { rows, used: 0 }
     }
+
+    // The size of the code behind a handle, none where the handle is unknown.
+    fn size_at(&self, handle: Handle) -> Option<u16>
+        requires { ⌜ now self .used ≤ length (now (now self .rows)) ⌝ }
+        ensures { λ r. ⌜ r ≡ size-of-row (now (now (self .entry) .rows)) (now (self .entry) .used) handle ⌝ }
+    {
+        let at = handle.number as usize;
+        if at < self.used {
+            Some(self.rows[at].size)
+        } else {
+            None
+        }
+    }
+
+    // The size that the construct would have, none for an unknown handle or a number outside its range.
+    fn size_asked(&self, construct: Construct) -> Option<u32>
+        requires { ⌜ now self .used ≤ length (now (now self .rows)) ⌝ }
+        ensures { λ r. ⌜ r ≡ asked-size (now (now (self .entry) .rows)) (now (self .entry) .used) construct ⌝ }
+    {
+        match construct {
+            Construct::Number(_) | Construct::Truth(_) => Some(1),
+            Construct::Input(input) => if input < INPUTS { Some(1) } else { None },
+            Construct::Variable(serial) => if serial < SERIALS { Some(1) } else { None },
+            Construct::Join(_, a, b) | Construct::Apply(a, b) => {
+                over_two(self.size_at(a), self.size_at(b))
+            }
+            Construct::Choose(a, b, d) => {
+                over_three(self.size_at(a), self.size_at(b), self.size_at(d))
+            }
+            Construct::Function(serial, _, body) => {
+                if serial < SERIALS {
+                    over_one(self.size_at(body))
+                } else {
+                    None
+                }
+            }
+            Construct::Let(serial, bound, body) => {
+                if serial < SERIALS {
+                    over_two(self.size_at(bound), self.size_at(body))
+                } else {
+                    None
+                }
+            }
+        }
+    }
 }
 
 pub impl<'a> Store for Ledger<'a> as LedgerStore {
@@ -40,24 +91,31 @@ pub impl<'a> Store for Ledger<'a> as LedgerStore {
     ghost price = { one-each };
 
     fn make(&mut self, construct: Construct) -> Result<Handle, StoreFault> {
-        let Some(size) = size_asked(self.rows, self.used, construct) else {
+        let Some(size) = self.size_asked(construct) else {
             return Err(StoreFault::BadArgument);
         };
-        if size > LARGEST {
+        if size > u32::from(LARGEST) {
             return Err(StoreFault::TooLarge);
         }
         let at = self.used;
         if at >= self.rows.len() || at >= MOST_ROWS {
             return Err(StoreFault::NoRoom { wanted: 1, free: 0 });
         }
-        self.rows[at] = Row { construct, size };
+        self.rows[at] = Row {
+            construct,
+            size: size as u16,
+        };
         self.used = at + 1;
         Ok(Handle { number: at as u32 })
     }
 
     fn look(&self, handle: Handle) -> Option<Construct> {
         let at = handle.number as usize;
-        if at < self.used { Some(self.rows[at].construct) } else { None }
+        if at < self.used {
+            Some(self.rows[at].construct)
+        } else {
+            None
+        }
     }
 
     fn free(&self) -> usize {
@@ -65,37 +123,23 @@ pub impl<'a> Store for Ledger<'a> as LedgerStore {
     }
 }
 
-// The size of the code behind a handle, none where the handle is unknown.
-fn size_at(rows: &[Row], used: usize, handle: Handle) -> Option<u16>
-    requires { ⌜ used ≤ length (now rows) ⌝ }
-    ensures { λ r. ⌜ r ≡ size-of-row (now (rows .entry)) used handle ⌝ }
+// The size over one part, none where the part has none.
+fn over_one(a: Option<u16>) -> Option<u32>
+    ensures { λ r. ⌜ r ≡ plus1 a ⌝ }
 {
-    let at = handle.number as usize;
-    if at < used { Some(rows[at].size) } else { None }
+    Some(1 + u32::from(a?))
 }
 
-// The size that the construct would have, none for an unknown handle or a number outside its range.
-fn size_asked(rows: &[Row], used: usize, construct: Construct) -> Option<u16>
-    requires { ⌜ used ≤ length (now rows) ⌝ }
-    ensures { λ r. ⌜ r ≡ asked-size (now (rows .entry)) used construct ⌝ }
+// The size over two parts.
+fn over_two(a: Option<u16>, b: Option<u16>) -> Option<u32>
+    ensures { λ r. ⌜ r ≡ plus2 a b ⌝ }
 {
-    match construct {
-        Construct::Number(_) | Construct::Truth(_) => Some(1),
-        Construct::Input(input) => if input < 8 { Some(1) } else { None },
-        Construct::Variable(serial) => if serial < 4096 { Some(1) } else { None },
-        Construct::Join(_, a, b) | Construct::Apply(a, b) => {
-            Some(1 + size_at(rows, used, a)? + size_at(rows, used, b)?)
-        }
-        Construct::Choose(a, b, d) => {
-            Some(1 + size_at(rows, used, a)? + size_at(rows, used, b)? + size_at(rows, used, d)?)
-        }
-        Construct::Function(serial, _, body) => {
-            let size = size_at(rows, used, body)?;
-            if serial < 4096 { Some(1 + size) } else { None }
-        }
-        Construct::Let(serial, bound, body) => {
-            let size = 1 + size_at(rows, used, bound)? + size_at(rows, used, body)?;
-            if serial < 4096 { Some(size) } else { None }
-        }
-    }
+    Some(1 + u32::from(a?) + u32::from(b?))
+}
+
+// The size over three parts.
+fn over_three(a: Option<u16>, b: Option<u16>, d: Option<u16>) -> Option<u32>
+    ensures { λ r. ⌜ r ≡ plus3 a b d ⌝ }
+{
+    Some(1 + u32::from(a?) + u32::from(b?) + u32::from(d?))
 }

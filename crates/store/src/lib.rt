@@ -1,7 +1,7 @@
 // Stores of code: their one meaning, the ledger, and the sharing layer over any store.
-pub mod meaning;
-pub mod search;
-pub mod row;
 pub mod ledger;
+pub mod meaning;
 pub mod memory;
+pub mod row;
+pub mod search;
 pub mod sharing;

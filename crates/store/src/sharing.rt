@@ -1,15 +1,17 @@
 // A store that answers a request of late from memory, over any store.
 ghost use mathlib.Core.Path.{_≡_};
 ghost use Prim.Native.Nat.{ℕ, _<_, _≤_};
-ghost use Rattle.store.specs.Memory.{Asked, same-request, Noted, Remembers, Empty-memory};
-use code::construct::Construct;
-use code::construct::Handle;
+ghost use Rattle.store.specs.Meaning.{Made};
+ghost use Rattle.store.specs.Sharing.{Fresh-layer, Shares};
+ghost use Rattle.store.specs.Memory.{Asked, same-request, In-order, Noted, Remembers, Empty-memory};
 use crate::meaning::Store;
 use crate::meaning::StoreFault;
 use crate::memory::Memory;
 use crate::memory::Remembered;
 use crate::search::Sameness;
 use crate::search::find;
+use code::construct::Construct;
+use code::construct::Handle;
 
 pub impl Sameness for Remembered as SameRequest {
     ghost same = { same-request };
@@ -24,8 +26,15 @@ impl Memory {
     pub fn new() -> Memory
         ensures { λ r. ⌜ Empty-memory r ⌝ }
     {
-        let blank = Remembered { request: Construct::Number(0), handle: Handle { number: 0 } };
-        Memory { entries: [blank; 64], count: 0, next: 0 }
+        let blank = Remembered {
+            request: Construct::Number(0),
+            handle: Handle { number: 0 },
+        };
+        Memory {
+            entries: [blank; 64],
+            count: 0,
+            next: 0,
+        }
     }
 
     // The handle that answered the request, where it is remembered.
@@ -33,21 +42,22 @@ impl Memory {
         requires { ⌜ now self .count ≤ 64 ⌝ }
         ensures { λ r. ⌜ Asked (now (self .entry)) request r ⌝ }
     {
-        let wanted = Remembered { request, handle: Handle { number: 0 } };
+        let wanted = Remembered {
+            request,
+            handle: Handle { number: 0 },
+        };
         let place = find(&self.entries[0..self.count], &wanted)?;
         Some(self.entries[place].handle)
     }
 
     // Remembers one request more, in the place of the oldest where the table is full.
     fn note(&mut self, request: Construct, handle: Handle)
-        requires { ⌜ now self .count ≤ 64 ⌝ ∗ ⌜ now self .next < 64 ⌝ }
+        requires { ⌜ In-order (now self) ⌝ }
         ensures { λ _. ⌜ Noted (now (self .entry)) request handle (now (self .exit)) ⌝ }
     {
         self.entries[self.next] = Remembered { request, handle };
         self.next = (self.next + 1) % 64;
-        if self.count < 64 {
-            self.count += 1;
-        }
+        self.count = (self.count + 1).min(64);
     }
 }
 
@@ -59,8 +69,12 @@ pub struct Sharing<S> {
 
 impl<S: Store> Sharing<S> {
     // The layer over a store, with nothing remembered.
-    pub fn new(below: S) -> Sharing<S> {
-        Sharing { below, memory: Memory::new() }
+    pub fn new(below: S) -> Sharing<S>
+        ensures fresh { λ r. ⌜ Fresh-layer below r ⌝ }
+        ensures valid { λ r. ⌜ (S·Store .valid below → S·Store .valid (r .below) × Remembers (S·Store .code (r .below)) (r .memory)) ⌝ }
+    {
+        let memory = Memory::new();
+        Sharing { below, memory }
     }
 }
 
@@ -73,7 +87,13 @@ pub impl<S: Store> Store for Sharing<S> as SharingStore {
 
     ghost price = { λ s. S·Store .price (s .below) };
 
-    fn make(&mut self, construct: Construct) -> Result<Handle, StoreFault> {
+    // A remembered request is answered from memory; any other goes below, and is noted where it is granted.
+    fn make(&mut self, construct: Construct) -> Result<Handle, StoreFault>
+        requires { ⌜ S·Store .valid (now self .below) × Remembers (S·Store .code (now self .below)) (now self .memory) ⌝ }
+        ensures stays { λ _. ⌜ S·Store .valid (now (self .exit) .below) × Remembers (S·Store .code (now (self .exit) .below)) (now (self .exit) .memory) ⌝ }
+        ensures made { λ r. ⌜ Made (S·Store .code (now (self .entry) .below)) (S·Store .code (now (self .exit) .below)) (S·Store .units (now (self .entry) .below)) (S·Store .units (now (self .exit) .below)) (S·Store .price (now (self .entry) .below)) (S·Store .price (now (self .exit) .below)) construct r ⌝ }
+        ensures shares { λ r. ⌜ Shares (now (self .entry)) construct r (now (self .exit)) ⌝ }
+    {
         if let Some(handle) = self.memory.recall(construct) {
             return Ok(handle);
         }

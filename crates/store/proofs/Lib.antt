@@ -1,0 +1,6 @@
+pub mod Meanings
+pub mod Rows
+pub mod Sizes
+pub mod Makes
+pub mod Memories
+pub mod Shares
