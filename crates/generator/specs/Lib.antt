@@ -1,0 +1,4 @@
+pub mod Faults
+pub mod Binders
+pub mod Reading
+pub mod Plans
