@@ -2,3 +2,4 @@ pub mod Faults
 pub mod Binders
 pub mod Reading
 pub mod Plans
+pub mod Page

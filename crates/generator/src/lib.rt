@@ -13,3 +13,4 @@ pub mod binding;
 pub mod marking;
 pub mod generator;
 pub mod calls;
+pub mod page;
