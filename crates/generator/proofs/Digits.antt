@@ -1,11 +1,15 @@
--- The digits of a number, filled in from the last into ten bytes.
+-- The digits of a number, filled in from the last into ten bytes, and its sign.
 use Prim.Native.Nat.{ℕ, _+_, _-_, _/_, _%_, _^_, _<_, _≤_}
-use mathlib.Core.Path.{_≡_, sym, ap, _∙_}
+use mathlib.Core.Path.{_≡_, refl, sym, ap, _∙_}
 use mathlib.Core.List.{List, [], _∷_, _++_}
+use mathlib.Core.Bool.{false}
+use lib.IntN.{ℤ, pos, negsuc, natAbs}
+use lib.Signed.{leZ}
 use lib.ListN.{length, take, drop, set}
 use native.Mathlib.Omega.{arith}
-use Rattle.std.specs.Written.{decimal}
+use Rattle.std.specs.Written.{decimal, signed}
 use Rattle.std.proofs.shelf.Lists.{append-assoc, length-append, length-drop, length-push, length-set, take-all, drop-set}
+use Rattle.std.proofs.shelf.Tests.{leb-false}
 use Rattle.std.proofs.shelf.Decimals.{decimal-digit, decimal-step, decimal-some, length-decimal-le}
 
 -- two digits left want two places
@@ -27,3 +31,11 @@ pub digit-last : (digits whole : List ℕ) (first rest : ℕ) → length digits 
 digit-last digits whole first rest ten low one e =
     take-all _ _ (simp (length-drop, length-set) (omega arith)) ∙
     drop-set digits first (48 + rest) (omega arith) ∙ ap (λ (l : List ℕ). l ++ drop (first + 1) digits) (sym (decimal-digit rest one)) ∙ e
+
+-- a number below 0, read as y, is a sign and its size
+pub signed-below : {y z : ℤ} (size : ℕ) → y ≡ z → leZ (pos 0) y ≡ false → size ≡ natAbs y → 45 ∷ decimal size ≡ signed z
+signed-below {y} {z} size same below is = ap (λ (n : ℕ). 45 ∷ decimal n) is ∙ of-size y below ∙ ap signed same
+  where
+    of-size : (x : ℤ) → leZ (pos 0) x ≡ false → 45 ∷ decimal (natAbs x) ≡ signed x
+    of-size (negsuc n) e = refl
+    of-size (pos n) e = absurd (omega (arith, leb-false 0 n e))

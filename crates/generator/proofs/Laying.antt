@@ -2,13 +2,13 @@
 use Prim.Native.Nat.{ℕ, suc, min, _+_, _-_, _^_, _<_, _≤_}
 use mathlib.Core.Path.{_≡_, refl, sym, ap, _∙_}
 use mathlib.Core.List.{List, [], _∷_, _++_}
-use mathlib.Core.Logic.{_⊎_, inl, inr}
+use mathlib.Core.Logic.{inl, inr}
 use lib.ListN.{length, take, drop, getD}
 use lib.Seq.{take-append-add, take-length}
 use native.Mathlib.Nat.{add-zero, add-suc, suc-add}
 use native.Mathlib.Omega.{arith}
 use borrow.Rule.Slice.PartMut.{putMid}
-use Rattle.std.proofs.shelf.Lists.{append-nil, length-take, length-drop, length-append, length-take-le, take-append-drop, take-all, take-at, take-append-le, take-more, joined-more, drop-drop, drop-all}
+use Rattle.std.proofs.shelf.Lists.{append-nil, length-take, length-drop, length-append, take-append-drop, take-all, take-at, take-append-le, take-more, joined-more, drop-drop, drop-all}
 use Rattle.std.proofs.shelf.Tests.{cases-lt}
 use Rattle.generator.specs.Page.{overlaid, Laid, after-blank, listed}
 
@@ -53,8 +53,9 @@ overlaid-then (x ∷ out) ℕ.zero (t ∷ a) b = rw (overlaid-here x out t a, ad
 overlaid-at : (out : List ℕ) (m n : ℕ) (text : List ℕ) → length out ≤ 2 ^ 64 - 1 → m ≡ min n (2 ^ 64 - 1) → overlaid out m text ≡ overlaid out n text
 overlaid-at out m n text small is =
     elim (cases-lt (2 ^ 64 - 1) n) [
-      inl h ↦ overlaid-past out m text (omega arith) ∙ sym (overlaid-past out n text (omega arith))
-    | inr h ↦ ap (λ (k : ℕ). overlaid out k text) (omega arith) ]
+      | inl h ↦ overlaid-past out m text (omega arith) ∙ sym (overlaid-past out n text (omega arith))
+      | inr h ↦ ap (λ (k : ℕ). overlaid out k text) (omega arith)
+    ]
 
 pub laid-then : {o o1 o2 a b : List ℕ} {at m r : ℕ} → Laid o at a o1 m → Laid o1 m b o2 r → Laid o at (a ++ b) o2 r
 laid-then {o} {o1} {o2} {a} {b} {at} {m} {r} x y =
@@ -81,9 +82,10 @@ unfolding overlaid
 copied out at k text part within fits is =
     ap (λ (l : List ℕ). take at out ++ (part ++ l)) (drop-drop k at out) ∙ ap (λ (l : List ℕ). take at out ++ (l ++ drop (at + k) out)) is ∙
     elim (cases-lt (length text) (length out - at)) [
-      inl h ↦ rw (take-all k text (omega arith)) (let e : k ≡ length text = omega arith in rw e (sym (overlaid-fits out at text (omega arith))))
-    | inr h ↦ (let rest = drop (at + length text) out in
-        ap (λ (l : List ℕ). take at out ++ (take k text ++ l)) (drop-all (at + k) out (omega arith)) ∙
-        ap (λ (l : List ℕ). take at out ++ l) (append-nil (take k text) ∙ sym (take-append-le k text rest (omega arith))) ∙
-        sym (take-append-add (take at out) (text ++ rest) k) ∙
-        ap (λ (n : ℕ). take n (take at out ++ (text ++ rest))) (simp length-take (omega arith))) ]
+      | inl h ↦ rw (take-all k text (omega arith)) (let e : k ≡ length text = omega arith in rw e (sym (overlaid-fits out at text (omega arith))))
+      | inr h ↦ (let rest = drop (at + length text) out in
+          ap (λ (l : List ℕ). take at out ++ (take k text ++ l)) (drop-all (at + k) out (omega arith)) ∙
+          ap (λ (l : List ℕ). take at out ++ l) (append-nil (take k text) ∙ sym (take-append-le k text rest (omega arith))) ∙
+          sym (take-append-add (take at out) (text ++ rest) k) ∙
+          ap (λ (n : ℕ). take n (take at out ++ (text ++ rest))) (simp length-take (omega arith)))
+    ]

@@ -32,6 +32,7 @@ pub fn put_decimal(out: &mut [u8], at: usize, n: u32) -> usize
     put(out, at, &digits[first..])
 }
 
+// The digits of n, after a minus sign where it is negative.
 pub fn put_signed(out: &mut [u8], at: usize, n: i32) -> usize
     ensures { λ r. ⌜ Laid (now (out .entry)) at (signed n) (now (out .exit)) r ⌝ }
 {
