@@ -3,3 +3,4 @@ pub mod Binders
 pub mod Reading
 pub mod Plans
 pub mod Page
+pub mod Printing

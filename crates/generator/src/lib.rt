@@ -14,3 +14,5 @@ pub mod marking;
 pub mod generator;
 pub mod calls;
 pub mod page;
+pub mod spelling;
+pub mod printer;
