@@ -1,0 +1,4 @@
+// Scripts: the steps that their bytes spell.
+pub mod step;
+mod kind;
+pub mod cursor;
