@@ -2,3 +2,4 @@
 pub mod step;
 mod kind;
 pub mod cursor;
+pub mod laws;
