@@ -1,0 +1,55 @@
+-- What is read at a place, by the bytes that are left there.
+use Prim.Native.Nat.{ℕ, _+_, _-_, _≤_, _<_}
+use mathlib.Core.Path.{_≡_, sym, ap, _∙_}
+use mathlib.Core.List.{List}
+use native.Mathlib.Nat.{add-zero}
+use native.Mathlib.Omega.{arith}
+use lib.ListN.{length, getD, take, drop, length-drop}
+use Rattle.std.proofs.shelf.Lists.{getD-past, getD-drop, drop-drop, take-rest}
+use Rattle.std.proofs.shelf.Tests.{cond-true, cond-false, le-leb, lt-leb}
+use Rattle.std.specs.declared.option.Option.{Option}
+use Rattle.std.specs.declared.option.Option.the-variants.{Some, None}
+use Rattle.script.specs.declared.kind.Kind.{Kind}
+use Rattle.script.specs.declared.step.Misread.the-variants.{UnknownKind, CutShort}
+use Rattle.script.specs.Steps.{Read, form, kind-of, read-kind, read-step, misread, step-to}
+
+module _ (script rest : List ℕ) (place : ℕ) (left : rest ≡ drop place script) where
+  -- the bytes after the first
+  abbrev pub body : List ℕ
+  body = take (length rest - 1) (drop 1 rest)
+
+  body-is : body ≡ drop (place + 1) script
+  body-is = take-rest rest 1 ∙ ap (drop 1) left ∙ drop-drop 1 place script
+
+  body-length : length body ≡ length script - (place + 1)
+  body-length = ap length body-is ∙ length-drop (place + 1) script
+
+  -- a body of n bytes ends within the script
+  pub fits : (n : ℕ) → 1 ≤ length rest → n ≤ length body → place + 1 + n ≤ length script
+  fits n one le = omega (arith, body-length, ap length left, length-drop place script)
+
+  -- the kind is that of the first byte
+  by-kind : (o : Option Kind) → o ≡ kind-of (getD rest 0 0) → read-step script place ≡ read-kind script place o
+  by-kind o e =
+      ap (λ (b : ℕ). read-kind script place (kind-of b)) (sym (ap (λ (xs : List ℕ). getD xs 0 0) left ∙ getD-drop place script 0 0 ∙ ap (λ (n : ℕ). getD script n 0) (add-zero place)))
+      ∙ ap (read-kind script place) (sym e)
+
+  pub read-ended : length rest < 1 → read-step script place ≡ misread UnknownKind
+  read-ended lt =
+      ap (λ (b : ℕ). read-kind script place (kind-of b)) (getD-past script place 0 (omega (arith, ap length left, length-drop place script)))
+
+  pub read-unknown : None ≡ kind-of (getD rest 0 0) → read-step script place ≡ misread UnknownKind
+  read-unknown none = by-kind None none
+
+  pub read-short : (k : Kind) → Some k ≡ kind-of (getD rest 0 0) → length body < form k .body → read-step script place ≡ misread CutShort
+  read-short k some lt =
+      by-kind (Some k) some
+      ∙ cond-false _ _ _ (lt-leb (place + 1 + form k .body) (length script) (omega (arith, body-length)))
+
+  pub read-whole :
+      (k : Kind) → Some k ≡ kind-of (getD rest 0 0) → place + 1 + form k .body ≤ length script
+      → read-step script place ≡ step-to (form k .step (λ i. getD body i 0)) (place + 1 + form k .body)
+  read-whole k some le =
+      by-kind (Some k) some
+      ∙ cond-true _ _ _ (le-leb (place + 1 + form k .body) (length script) le)
+      ∙ (λ j. step-to (form k .step (λ i. (sym (getD-drop (place + 1) script i 0) ∙ ap (λ (xs : List ℕ). getD xs i 0) (sym body-is)) j)) (place + 1 + form k .body))
