@@ -16,3 +16,5 @@ pub mod calls;
 pub mod page;
 pub mod spelling;
 pub mod printer;
+pub mod answer;
+pub mod performing;

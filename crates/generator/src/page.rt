@@ -17,11 +17,11 @@ pub fn put(out: &mut [u8], at: usize, text: &[u8]) -> usize
 }
 
 // The digits of n, filled in from the last.
-pub fn put_decimal(out: &mut [u8], at: usize, n: u32) -> usize
+pub fn put_decimal(out: &mut [u8], at: usize, n: u64) -> usize
     ensures { λ r. ⌜ Laid (now (out .entry)) at (decimal n) (now (out .exit)) r ⌝ }
 {
-    let mut digits = [b'0'; 10];
-    let mut first = 9;
+    let mut digits = [b'0'; 20];
+    let mut first = 19;
     let mut rest = n;
     while rest >= 10 {
         digits[first] = b'0' + (rest % 10) as u8;
@@ -38,14 +38,14 @@ pub fn put_signed(out: &mut [u8], at: usize, n: i32) -> usize
 {
     let size = n.unsigned_abs();
     if n >= 0 {
-        return put_decimal(out, at, size);
+        return put_decimal(out, at, size as u64);
     }
     let place = put(out, at, b"-");
-    put_decimal(out, place, size)
+    put_decimal(out, place, size as u64)
 }
 
 // A word, then a number.
-pub fn put_word_number(out: &mut [u8], at: usize, word: &[u8], n: u32) -> usize
+pub fn put_word_number(out: &mut [u8], at: usize, word: &[u8], n: u64) -> usize
     ensures { λ r. ⌜ Laid (now (out .entry)) at (now (word .entry) ++ decimal n) (now (out .exit)) r ⌝ }
 {
     let place = put(out, at, word);
@@ -58,7 +58,7 @@ pub fn put_serials(out: &mut [u8], at: usize, serials: &[u16]) -> usize
 {
     let mut place = at;
     for serial in serials {
-        place = put_word_number(out, place, b" ", *serial as u32);
+        place = put_word_number(out, place, b" ", *serial as u64);
     }
     place
 }

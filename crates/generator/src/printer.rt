@@ -36,8 +36,8 @@ pub(crate) fn write_code<S: Store>(store: &S, handle: Handle, around: &mut [u16]
     match construct {
         Construct::Number(value) => put_signed(out, at, value),
         Construct::Truth(truth) => put_truth(out, at, truth),
-        Construct::Input(input) => put_word_number(out, at, b"i", input as u32),
-        Construct::Variable(serial) => put_name(out, at, level_of(around, depth, serial) as u32),
+        Construct::Input(input) => put_word_number(out, at, b"i", input as u64),
+        Construct::Variable(serial) => put_name(out, at, level_of(around, depth, serial) as u64),
         Construct::Join(operator, left, right) => {
             let p = put(out, at, b"(");
             let p = write_code(store, left, around, depth, out, p);
@@ -62,13 +62,13 @@ pub(crate) fn write_code<S: Store>(store: &S, handle: Handle, around: &mut [u16]
             put(out, p, b")")
         }
         Construct::Function(serial, parameter, body) => {
-            let p = put_fun_head(out, at, depth as u32, parameter);
+            let p = put_fun_head(out, at, depth as u64, parameter);
             around[depth] = serial;
             let p = write_code(store, body, around, depth + 1, out, p);
             put(out, p, b")")
         }
         Construct::Let(serial, bound, body) => {
-            let p = put_let_head(out, at, depth as u32);
+            let p = put_let_head(out, at, depth as u64);
             let p = write_code(store, bound, around, depth, out, p);
             let p = put(out, p, b" in ");
             around[depth] = serial;

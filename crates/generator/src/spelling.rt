@@ -21,7 +21,7 @@ pub(crate) fn put_truth(out: &mut [u8], at: usize, truth: bool) -> usize
 }
 
 // The name of a binder that stands in `level` bodies.
-pub(crate) fn put_name(out: &mut [u8], at: usize, level: u32) -> usize
+pub(crate) fn put_name(out: &mut [u8], at: usize, level: u64) -> usize
     ensures { λ r. ⌜ Laid (now (out .entry)) at (name level) (now (out .exit)) r ⌝ }
 {
     put_word_number(out, at, b"v", level)
@@ -34,7 +34,7 @@ pub(crate) fn put_between(out: &mut [u8], at: usize, operator: Operator) -> usiz
     put(out, at, &[b' ', operator.sign(), b' '])
 }
 
-pub(crate) fn put_fun_head(out: &mut [u8], at: usize, level: u32, parameter: Base) -> usize
+pub(crate) fn put_fun_head(out: &mut [u8], at: usize, level: u64, parameter: Base) -> usize
     ensures { λ r. ⌜ Laid (now (out .entry)) at (fun-head (name level) parameter) (now (out .exit)) r ⌝ }
 {
     let at = put(out, at, b"(fun ");
@@ -42,7 +42,7 @@ pub(crate) fn put_fun_head(out: &mut [u8], at: usize, level: u32, parameter: Bas
     put(out, at, &[b':', parameter.letter(), b' ', b'.', b' '])
 }
 
-pub(crate) fn put_let_head(out: &mut [u8], at: usize, level: u32) -> usize
+pub(crate) fn put_let_head(out: &mut [u8], at: usize, level: u64) -> usize
     ensures { λ r. ⌜ Laid (now (out .entry)) at (let-head (name level)) (now (out .exit)) r ⌝ }
 {
     let at = put(out, at, b"(let ");
