@@ -8,7 +8,7 @@ use mathlib.Core.Logic.{_⊎_, inl, inr, ⊎-elim}
 use lib.Dec.{eqb, ltb}
 use lib.ListN.{length, drop}
 use Rattle.std.proofs.shelf.Tests.{cond-both, cond-true, cond-false, eqb-true, eqb-false, eq-eqb, ne-eqb, ltb-true, ltb-false, lt-ltb, le-ltb}
-use Rattle.code.specs.Members.{In, first, later}
+use Rattle.code.specs.Members.{In, Among, first, later}
 use Rattle.code.specs.Names.{insert, merge, without, Ascending}
 
 module _ {A : Type 0} where
@@ -123,17 +123,26 @@ without-shorter x (y ∷ ys) =
     let h = without-shorter x ys in
     cond-both (eqb x y) (without x ys) (y ∷ without x ys) (λ l. length l ≤ suc (length ys)) (λ _. omega arith) (λ _. omega arith)
 
+among-rest : (b : ℕ) (bs xs : List ℕ) → Among xs (b ∷ bs) → Among (without b xs) bs
+among-rest b bs xs all x i = let r = in-without x b xs i in ⊎-elim (λ e. absurd (r .1 e)) (λ j. j) (in-cons (all x (r .0)))
+
 -- names that all stand in a list are no more than it has
-pub few-among : (bs xs : List ℕ) → Ascending 0 xs → ((x : ℕ) → In x xs → In x bs) → length xs ≤ length bs
+pub few-among : (bs xs : List ℕ) → Ascending 0 xs → Among xs bs → length xs ≤ length bs
 few-among [] [] a all = omega arith
 few-among [] (x ∷ xs) a all = absurd (in-none (all x first))
 few-among (b ∷ bs) xs a all =
-    let h =
-        few-among bs (without b xs) (ascending-without 0 b xs a)
-        (λ x i. let r = in-without x b xs i in ⊎-elim (λ e. absurd (r .1 e)) (λ j. j) (in-cons (all x (r .0))))
-    in
+    let h = few-among bs (without b xs) (ascending-without 0 b xs a) (among-rest b bs xs all) in
     let m = without-most 0 b xs a in
     omega arith
+
+pub among-merge : (bs xs ys : List ℕ) → Among xs bs → Among ys bs → Among (merge xs ys) bs
+among-merge bs xs ys l r x i = ⊎-elim (l x) (r x) (in-merge x xs ys i)
+
+pub among-without : (bs : List ℕ) (s : ℕ) (xs : List ℕ) → Among xs bs → Among (without s xs) bs
+among-without bs s xs all x i = all x (in-without x s xs i .0)
+
+pub few-merge : (bs xs ys : List ℕ) → Ascending 0 xs → Ascending 0 ys → Among xs bs → Among ys bs → length (merge xs ys) ≤ length bs
+few-merge bs xs ys a b l r = few-among bs (merge xs ys) (ascending-merge 0 xs ys a b) (among-merge bs xs ys l r)
 
 -- a name below a list goes to its front
 insert-below : (x n : ℕ) (ys : List ℕ) → x < n → Ascending n ys → insert x ys ≡ x ∷ ys

@@ -8,8 +8,9 @@ use lib.Dec.{leb, eqb}
 use lib.ListN.{length, take, drop, getD, set}
 use Rattle.std.proofs.shelf.Tests.{and-parts, leb-true, le-leb, eq-eqb, ne-eqb, cond-true, cond-false}
 use Rattle.std.proofs.shelf.Lists.{drop-more, drop-all, take-more-set, length-take, length-take-le, length-set, length-append, append-nil}
+use Rattle.code.specs.Members.{Among}
 use Rattle.code.specs.Names.{merge, without, Ascending}
-use Rattle.code.proofs.NameLists.{ascending-drop, without-shorter, merge-none, merge-less, merge-more, merge-same}
+use Rattle.code.proofs.NameLists.{ascending-drop, without-shorter, few-merge, merge-none, merge-less, merge-more, merge-same}
 use Rattle.generator.specs.Ascends.{ascends}
 use Rattle.generator.specs.Serials.{names}
 use Rattle.generator.specs.declared.names.Names.{Names}
@@ -33,6 +34,10 @@ ascending-same n e = subst (Ascending 0) (sym e) (names-ascending n)
 -- at most 16 names
 pub names-few : (n : Names) → length (names n) ≤ 16
 names-few n = omega (arith, length-take (n .count) (n .serials), n .few)
+
+-- names that stand in a list of at most 16 can be merged
+pub merge-fits : (bs : List ℕ) (n m : Names) → length bs ≤ 16 → Among (names n) bs → Among (names m) bs → length (merge (names n) (names m)) ≤ 16
+merge-fits bs n m few l r = omega (arith, few-merge bs (names n) (names m) (names-ascending n) (names-ascending m) l r)
 
 pub few-merged : {a b a′ b′ : List ℕ} → a ≡ a′ → b ≡ b′ → length (merge a′ b′) ≤ 16 → length (merge a b) ≤ 16
 few-merged p q h = subst (λ (xs : List ℕ). length xs ≤ 16) (λ k. merge (sym p k) (sym q k)) h
@@ -118,8 +123,8 @@ written-more {out} {rest} {left} {whole} {n} {x} w next few =
       long = length-set out n x ∙ w .long;
       fits = omega arith;
       joins =
-        ap (λ (xs : List ℕ). xs ++ rest) (take-more-set out n x (omega (arith, w .long))) ∙ append-assoc (take n out) (x ∷ []) rest
-        ∙ ap (λ (xs : List ℕ). take n out ++ xs) (sym next) ∙ w .joins;
+          ap (λ (xs : List ℕ). xs ++ rest) (take-more-set out n x (omega (arith, w .long))) ∙ append-assoc (take n out) (x ∷ []) rest
+          ∙ ap (λ (xs : List ℕ). take n out ++ xs) (sym next) ∙ w .joins;
     }
 
 -- nothing is written, and what is left is another list that is the same

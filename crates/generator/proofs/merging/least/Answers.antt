@@ -6,7 +6,7 @@ use Rattle.generator.proofs.merging.least.Needs as need
 pub returns-then-right-b : need.returns-then-right-b
 returns-then-right-b c =
     record {
-      next = step-left-only (c .args .a .now) (c .args .b .now) (c .args .at .left) (c .args .at .right) (c .pre .ascending .0) (omega arith) (omega arith);
+      next = step-left-only (c .args .a .now) (c .args .b .now) (c .args .left) (c .args .right) (c .pre .ascending .0) (omega arith) (omega arith);
       within = (omega arith, omega arith);
       further = omega arith;
     }
@@ -14,7 +14,7 @@ returns-then-right-b c =
 pub returns-then-left-a : need.returns-then-left-a
 returns-then-left-a c =
     record {
-      next = step-right-only (c .args .a .now) (c .args .b .now) (c .args .at .left) (c .args .at .right) (c .pre .ascending .0) (omega arith) (omega arith);
+      next = step-right-only (c .args .a .now) (c .args .b .now) (c .args .left) (c .args .right) (c .pre .ascending .0) (omega arith) (omega arith);
       within = (omega arith, omega arith);
       further = omega arith;
     }
@@ -22,7 +22,7 @@ returns-then-left-a c =
 pub returns-then-x-y : need.returns-then-x-y
 returns-then-x-y c =
     record {
-      next = step-left (c .args .a .now) (c .args .b .now) (c .args .at .left) (c .args .at .right) (c .pre .ascending .0) (c .pre .ascending .1) (omega arith) (omega arith) (c .if-x-y .taken);
+      next = step-left (c .args .a .now) (c .args .b .now) (c .args .left) (c .args .right) (c .pre .ascending .0) (c .pre .ascending .1) (omega arith) (omega arith) (c .if-x-y .taken);
       within = (omega arith, omega arith);
       further = omega arith;
     }
@@ -30,7 +30,7 @@ returns-then-x-y c =
 pub returns-then-y-x : need.returns-then-y-x
 returns-then-y-x c =
     record {
-      next = step-right (c .args .a .now) (c .args .b .now) (c .args .at .left) (c .args .at .right) (c .pre .ascending .0) (omega arith) (omega arith) (c .if-y-x .taken);
+      next = step-right (c .args .a .now) (c .args .b .now) (c .args .left) (c .args .right) (c .pre .ascending .0) (omega arith) (omega arith) (c .if-y-x .taken);
       within = (omega arith, omega arith);
       further = omega arith;
     }
@@ -38,7 +38,7 @@ returns-then-y-x c =
 pub returns-else-y-x : need.returns-else-y-x
 returns-else-y-x c =
     record {
-      next = step-both (c .args .a .now) (c .args .b .now) (c .args .at .left) (c .args .at .right) (c .pre .ascending .0) (omega arith) (omega arith) (omega arith);
+      next = step-both (c .args .a .now) (c .args .b .now) (c .args .left) (c .args .right) (c .pre .ascending .0) (omega arith) (omega arith) (omega arith);
       within = (omega arith, omega arith);
       further = omega arith;
     }

@@ -4,11 +4,11 @@ use Rattle.code.specs.Names.{merge}
 use Rattle.generator.proofs.Merges.{Written}
 use Rattle.generator.proofs.names.Names.merge.Given as given
 
-abbrev pub Inv-loop-at : given.InvT-loop-at
-Inv-loop-at l =
-    Written (l .serials) (l .count) (merge (drop (l .at .left) (l .a)) (drop (l .at .right) (l .b))) (merge (l .a) (l .b))
-    × (l .at .left ≤ length (l .a))
-    × (l .at .right ≤ length (l .b))
+abbrev pub Inv-loop-left : given.InvT-loop-left
+Inv-loop-left l =
+    Written (l .serials) (l .count) (merge (drop (l .left) (l .a)) (drop (l .right) (l .b))) (merge (l .a) (l .b))
+    × (l .left ≤ length (l .a))
+    × (l .right ≤ length (l .b))
 
-abbrev pub μ-loop-at : given.MeasureT-loop-at
-μ-loop-at l = (length (l .a) + length (l .b)) - (l .at .left + l .at .right)
+abbrev pub μ-loop-left : given.MeasureT-loop-left
+μ-loop-left l = (length (l .a) + length (l .b)) - (l .left + l .right)
