@@ -4,3 +4,4 @@ pub mod Reading
 pub mod Plans
 pub mod Page
 pub mod Printing
+pub mod Serials

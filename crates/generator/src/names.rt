@@ -1,5 +1,4 @@
-// The free names of a code.
-// The first `count` serials, ascending, each once.
+// The free names of a code: the first `count` serials, ascending, each once.
 #[derive(Clone, Copy)]
 pub struct Names {
     pub(crate) serials: [u16; 16],
