@@ -1,17 +1,19 @@
 -- What is read at a place, by the bytes that are left there.
 use Prim.Native.Nat.{ℕ, _+_, _-_, _≤_, _<_}
-use mathlib.Core.Path.{_≡_, sym, ap, _∙_}
+use mathlib.Core.Path.{_≡_, refl, sym, ap, _∙_}
 use mathlib.Core.List.{List}
 use native.Mathlib.Nat.{add-zero}
 use native.Mathlib.Omega.{arith}
+use lib.Dec.{leb}
 use lib.ListN.{length, getD, take, drop, length-drop}
 use Rattle.std.proofs.shelf.Lists.{getD-past, getD-drop, drop-drop, take-rest}
-use Rattle.std.proofs.shelf.Tests.{cond-true, cond-false, le-leb, lt-leb}
+use Rattle.std.proofs.shelf.Tests.{cond-true, cond-false, cond-both, le-leb, lt-leb, leb-true}
 use Rattle.std.specs.declared.option.Option.{Option}
 use Rattle.std.specs.declared.option.Option.the-variants.{Some, None}
 use Rattle.script.specs.declared.kind.Kind.{Kind}
+use Rattle.script.specs.declared.step.Step.{Step}
 use Rattle.script.specs.declared.step.Misread.the-variants.{UnknownKind, CutShort}
-use Rattle.script.specs.Steps.{Read, form, kind-of, read-kind, read-step, misread, step-to}
+use Rattle.script.specs.Steps.{form, kind-of, read-kind, read-step, misread, step-to}
 
 module _ (script rest : List ℕ) (place : ℕ) (left : rest ≡ drop place script) where
   -- the bytes after the first
@@ -53,3 +55,28 @@ module _ (script rest : List ℕ) (place : ℕ) (left : rest ≡ drop place scri
       by-kind (Some k) some
       ∙ cond-true _ _ _ (le-leb (place + 1 + form k .body) (length script) le)
       ∙ (λ j. step-to (form k .step (λ i. (sym (getD-drop (place + 1) script i 0) ∙ ap (λ (xs : List ℕ). getD xs i 0) (sym body-is)) j)) (place + 1 + form k .body))
+
+-- where a step is read, a kind stands with its whole body
+pub record Whole (script : List ℕ) (place : ℕ) (s : Step) (after : ℕ) : Type 0 where
+  pub kind : Kind
+  pub told : kind-of (getD script place 0) ≡ Some kind
+  pub fits : place + 1 + form kind .body ≤ length script
+  pub step : form kind .step (λ i. getD script (place + 1 + i) 0) ≡ s
+  pub ends : place + 1 + form kind .body ≡ after
+
+pub whole : (script : List ℕ) (place : ℕ) (s : Step) (after : ℕ) → read-step script place ≡ step-to s after → Whole script place s after
+whole script place s after = go (kind-of (getD script place 0)) refl
+  where
+    go : (o : Option Kind) → kind-of (getD script place 0) ≡ o → read-kind script place o ≡ step-to s after → Whole script place s after
+    go None e = λ q. absurd (let z : _≡_ {A = ℕ} 0 1 = cc in omega arith)
+    go (Some k) e =
+        cond-both (leb (place + 1 + form k .body) (length script)) _ _ (λ x. x ≡ step-to s after → Whole script place s after)
+        (λ t q. record { kind = k; told = e; fits = leb-true (place + 1 + form k .body) (length script) t; step = cc; ends = cc })
+        (λ f q. absurd (let z : _≡_ {A = ℕ} 0 1 = cc in omega arith))
+
+-- a step that is read takes a byte or more, and ends within the script
+pub read-after : (script : List ℕ) (place : ℕ) (s : Step) (after : ℕ) → read-step script place ≡ step-to s after → place < after
+read-after script place s after e = omega (arith, whole script place s after e .ends)
+
+pub read-within : (script : List ℕ) (place : ℕ) (s : Step) (after : ℕ) → read-step script place ≡ step-to s after → after ≤ length script
+read-within script place s after e = omega (arith, whole script place s after e .ends, whole script place s after e .fits)

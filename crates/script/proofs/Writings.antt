@@ -2,23 +2,21 @@
 use Prim.Native.Nat.{ℕ, _+_, _-_, _*_, _/_, _%_, _^_, _≤_, _<_}
 use mathlib.Core.Path.{_≡_, refl, sym, ap, _∙_}
 use mathlib.Core.Bool.{true}
-use mathlib.Core.List.{List, [], _∷_, _++_}
+use mathlib.Core.List.{List, _∷_, _++_}
 use native.Mathlib.Nat.{div-div-eq-div-mul, div-add-mod, mod-eq-of-lt}
 use native.Mathlib.Omega.{arith}
-use lib.Dec.{ltb}
 use lib.IntN.{ℤ, pos, negsuc}
-use lib.ListN.{length, getD, drop, length-append}
-use Rattle.std.proofs.shelf.Lists.{drop-at, drop-drop, take-rest}
+use lib.ListN.{length, getD, length-append}
+use Rattle.std.proofs.shelf.Lists.{drop-at, take-rest}
 use Rattle.std.proofs.shelf.Tests.{cond-true, cond-false, ltb-true, le-ltb}
 use Rattle.std.specs.declared.option.Option.the-variants.{Some}
 use Rattle.code.specs.Code.{in-range32}
 use Rattle.generator.specs.declared.call.Call.the-variants as call
 use Rattle.script.specs.declared.kind.Kind.{Kind}
 use Rattle.script.specs.declared.kind.Kind.the-variants as kind
-use Rattle.script.specs.declared.step.Step.{Step}
 use Rattle.script.specs.declared.step.Step.the-variants as step
-use Rattle.script.specs.Steps.{signed32, little, form, kind-of, read-step, step-to}
-use Rattle.script.specs.Written.{bits32, four, bytes-of, Writable, Reads-back}
+use Rattle.script.specs.Steps.{signed32, form, kind-of, read-step, step-to}
+use Rattle.script.specs.Written.{bits32, four, Reads-back}
 use Rattle.script.proofs.Readings.{read-whole}
 
 -- a kind's byte and its body, whatever stands before them

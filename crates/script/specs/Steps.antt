@@ -70,8 +70,8 @@ abbrev pub read-kind : List ℕ → ℕ → Option Kind → Read
 read-kind script place None = misread UnknownKind
 read-kind script place (Some k) =
     cond (leb (place + 1 + form k .body) (length script))
-      (step-to (form k .step (λ i. getD script (place + 1 + i) 0)) (place + 1 + form k .body))
-      (misread CutShort)
+    (step-to (form k .step (λ i. getD script (place + 1 + i) 0)) (place + 1 + form k .body))
+    (misread CutShort)
 
 -- the step that stands at a place; past the end there is none
 abbrev pub read-step : List ℕ → ℕ → Read

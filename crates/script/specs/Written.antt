@@ -1,10 +1,11 @@
 -- The bytes that a step is written with, and that it is read back from them.
-use Prim.Native.Nat.{ℕ, _+_, _-_, _/_, _%_, _^_}
+use Prim.Native.Nat.{ℕ, _+_, _-_, _/_, _%_, _^_, _<_}
 use mathlib.Core.Path.{_≡_}
 use mathlib.Core.Bool.{true}
 use mathlib.Core.List.{List, [], _∷_, _++_}
 use lib.IntN.{ℤ, pos, negsuc}
-use lib.ListN.{length}
+use lib.ListN.{length, take, drop}
+use Rattle.std.specs.shelf.Lists.{All}
 use Rattle.code.specs.Code.{in-range32}
 use Rattle.generator.specs.declared.call.Call.the-variants as call
 use Rattle.script.specs.declared.step.Step.{Step}
@@ -67,3 +68,15 @@ abbrev pub Reads-back : Type 0
 Reads-back =
     (s : Step) (before rest : List ℕ) → Writable s
     → read-step (before ++ (bytes-of s ++ rest)) (length before) ≡ step-to s (length before + length (bytes-of s))
+
+-- from a place to the place after stand the bytes of the step, and no others
+pub record Stands (script : List ℕ) (place after : ℕ) (s : Step) : Type 0 where
+  pub writable : Writable s
+  pub ends : after ≡ place + length (bytes-of s)
+  pub bytes : script ≡ take place script ++ (bytes-of s ++ drop after script)
+
+-- a step is read only where its bytes stand
+abbrev pub Reads-only : Type 0
+Reads-only =
+    (script : List ℕ) (place after : ℕ) (s : Step) → All (λ b. b < 256) script → read-step script place ≡ step-to s after
+    → Stands script place after s

@@ -6,8 +6,8 @@ ghost use lib.ListN.{length, drop};
 ghost use denote.Ref.{now};
 ghost use Rattle.script.specs.Steps.{read-step, read-value, read-place};
 use crate::kind::Kind;
-use crate::step::Step;
 use crate::step::Misread;
+use crate::step::Step;
 
 #[derive(Drop)]
 pub struct Cursor<'a> {

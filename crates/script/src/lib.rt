@@ -1,5 +1,5 @@
 // Scripts: the steps that their bytes spell.
-pub mod step;
-mod kind;
 pub mod cursor;
+mod kind;
 pub mod laws;
+pub mod step;
