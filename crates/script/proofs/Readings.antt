@@ -13,7 +13,8 @@ use Rattle.std.specs.declared.option.Option.the-variants.{Some, None}
 use Rattle.script.specs.declared.kind.Kind.{Kind}
 use Rattle.script.specs.declared.step.Step.{Step}
 use Rattle.script.specs.declared.step.Misread.the-variants.{UnknownKind, CutShort}
-use Rattle.script.specs.Steps.{form, kind-of, read-kind, read-step, misread, step-to}
+use Rattle.std.specs.declared.result.Result.the-variants.{Ok}
+use Rattle.script.specs.Steps.{form, kind-of, Read, read-kind, read-step, read-value, read-place, misread, step-to}
 
 module _ (script rest : List ℕ) (place : ℕ) (left : rest ≡ drop place script) where
   -- the bytes after the first
@@ -80,3 +81,11 @@ read-after script place s after e = omega (arith, whole script place s after e .
 
 pub read-within : (script : List ℕ) (place : ℕ) (s : Step) (after : ℕ) → read-step script place ≡ step-to s after → after ≤ length script
 read-within script place s after e = omega (arith, whole script place s after e .ends, whole script place s after e .fits)
+
+-- the place goes on past what is read
+pub read-on : (script : List ℕ) (place : ℕ) (s : Step) (at : ℕ) → Ok s ≡ read-value (read-step script place) → at ≡ read-place place (read-step script place) → place < at
+read-on script place s at = go (read-step script place) refl
+  where
+    go : (r : Read) → read-step script place ≡ r → Ok s ≡ read-value r → at ≡ read-place place r → place < at
+    go (misread m) e q is = absurd (let z : _≡_ {A = ℕ} 0 1 = cc in omega arith)
+    go (step-to t after) e q is = omega (arith, read-after script place t after e)
