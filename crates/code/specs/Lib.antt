@@ -1,4 +1,5 @@
 pub mod Numbers
+pub mod Members
 pub mod Code
 pub mod Names
 pub mod Typing

@@ -63,17 +63,27 @@ spelled around (Code.apply f a) = apply (spelled around f) (spelled around a)
 spelled around (Code.function s p b) = function (name (length around)) p (spelled (s ∷ around) b)
 spelled around (Code.letin s e b) = letin (name (length around)) (spelled around e) (spelled (s ∷ around) b)
 
+-- an operator between its operands, and what stands before a function's body and a let's bound part
+abbrev pub between : Operator → List ℕ
+between o = codes " " ++ sign o ++ codes " "
+
+abbrev pub fun-head : List ℕ → Base → List ℕ
+fun-head v p = codes "(fun " ++ v ++ (codes ":" ++ letter p ++ codes " . ")
+
+abbrev pub let-head : List ℕ → List ℕ
+let-head v = codes "(let " ++ v ++ codes " = "
+
 -- its bytes, brackets and blanks
 abbrev pub flat : Spelled → List ℕ
 flat (number n) = signed n
 flat (truth b) = word b
 flat (input i) = codes "i" ++ decimal i
 flat (variable v) = v
-flat (join o a b) = codes "(" ++ flat a ++ codes " " ++ sign o ++ codes " " ++ flat b ++ codes ")"
+flat (join o a b) = codes "(" ++ flat a ++ between o ++ flat b ++ codes ")"
 flat (choose a b d) = codes "(if " ++ flat a ++ codes " then " ++ flat b ++ codes " else " ++ flat d ++ codes ")"
 flat (apply f a) = codes "(" ++ flat f ++ codes " @ " ++ flat a ++ codes ")"
-flat (function v p b) = codes "(fun " ++ v ++ codes ":" ++ letter p ++ codes " . " ++ flat b ++ codes ")"
-flat (letin v e b) = codes "(let " ++ v ++ codes " = " ++ flat e ++ codes " in " ++ flat b ++ codes ")"
+flat (function v p b) = fun-head v p ++ flat b ++ codes ")"
+flat (letin v e b) = let-head v ++ flat e ++ codes " in " ++ flat b ++ codes ")"
 
 abbrev pub text : List ℕ → Code → List ℕ
 text around c = flat (spelled around c)

@@ -1,0 +1,4 @@
+pub mod Laying
+pub mod Digits
+pub mod Printed
+pub mod Merges

@@ -1,0 +1,102 @@
+// The plans of the calls that leave the binders as they are.
+ghost use Rattle.generator.specs.Plans.{Keeping};
+use code::construct::Construct;
+use code::operator::Operator;
+use code::types::Base;
+use code::types::Ty;
+use crate::fault::GeneratorFault;
+use crate::names::Names;
+use crate::plan::Plan;
+use crate::plan::Scope;
+use crate::reading::slot;
+use crate::table::LARGEST;
+use crate::table::Table;
+
+// The size, where it is not too large.
+pub(crate) fn judge_size(size: u32) -> Result<u16, GeneratorFault> {
+    if size > LARGEST {
+        return Err(GeneratorFault::TooLarge);
+    }
+    Ok(size as u16)
+}
+
+// A construct without parts, into a cell.
+pub(crate) fn plan_leaf(cell: u8, construct: Construct, base: Base) -> Result<Plan, GeneratorFault>
+    ensures { λ r. ⌜ Keeping r ⌝ }
+{
+    let to = slot(cell)?;
+    Ok(Plan { to, construct, ty: Ty::Plain(base), size: 1, names: Names::none(), scope: Scope::Kept })
+}
+
+pub(crate) fn plan_truth(cell: u8, truth: u8) -> Result<Plan, GeneratorFault>
+    ensures { λ r. ⌜ Keeping r ⌝ }
+{
+    if truth > 1 {
+        return Err(GeneratorFault::BadArgument);
+    }
+    plan_leaf(cell, Construct::Truth(truth == 1), Base::Truth)
+}
+
+pub(crate) fn plan_input(cell: u8, input: u8) -> Result<Plan, GeneratorFault>
+    ensures { λ r. ⌜ Keeping r ⌝ }
+{
+    if input > 7 {
+        return Err(GeneratorFault::BadArgument);
+    }
+    plan_leaf(cell, Construct::Input(input), Base::Number)
+}
+
+impl Table {
+    pub(crate) fn plan_join(&self, cell: u8, operator: u8, left: u8, right: u8) -> Result<Plan, GeneratorFault>
+        ensures { λ r. ⌜ Keeping r ⌝ }
+    {
+        let to = slot(cell)?;
+        let a = slot(left)?;
+        let b = slot(right)?;
+        let operator = Operator::from_number(operator).ok_or(GeneratorFault::BadArgument)?;
+        let x = self.read(a)?;
+        let y = self.read(b)?;
+        self.judge_use(a, &x)?;
+        self.judge_use(b, &y)?;
+        let ty = Ty::joined(operator, x.ty, y.ty).ok_or(GeneratorFault::WrongType)?;
+        let size = judge_size(1 + x.size as u32 + y.size as u32)?;
+        let construct = Construct::Join(operator, x.handle, y.handle);
+        Ok(Plan { to, construct, ty, size, names: x.names.merge(&y.names), scope: Scope::Kept })
+    }
+
+    pub(crate) fn plan_choose(&self, cell: u8, condition: u8, then: u8, otherwise: u8) -> Result<Plan, GeneratorFault>
+        ensures { λ r. ⌜ Keeping r ⌝ }
+    {
+        let to = slot(cell)?;
+        let a = slot(condition)?;
+        let b = slot(then)?;
+        let d = slot(otherwise)?;
+        let x = self.read(a)?;
+        let y = self.read(b)?;
+        let z = self.read(d)?;
+        self.judge_use(a, &x)?;
+        self.judge_use(b, &y)?;
+        self.judge_use(d, &z)?;
+        let ty = Ty::chosen(x.ty, y.ty, z.ty).ok_or(GeneratorFault::WrongType)?;
+        let size = judge_size(1 + x.size as u32 + y.size as u32 + z.size as u32)?;
+        let construct = Construct::Choose(x.handle, y.handle, z.handle);
+        let names = x.names.merge(&y.names.merge(&z.names));
+        Ok(Plan { to, construct, ty, size, names, scope: Scope::Kept })
+    }
+
+    pub(crate) fn plan_apply(&self, cell: u8, function: u8, argument: u8) -> Result<Plan, GeneratorFault>
+        ensures { λ r. ⌜ Keeping r ⌝ }
+    {
+        let to = slot(cell)?;
+        let f = slot(function)?;
+        let a = slot(argument)?;
+        let x = self.read(f)?;
+        let y = self.read(a)?;
+        self.judge_use(f, &x)?;
+        self.judge_use(a, &y)?;
+        let ty = Ty::applied(x.ty, y.ty).ok_or(GeneratorFault::WrongType)?;
+        let size = judge_size(1 + x.size as u32 + y.size as u32)?;
+        let construct = Construct::Apply(x.handle, y.handle);
+        Ok(Plan { to, construct, ty, size, names: x.names.merge(&y.names), scope: Scope::Kept })
+    }
+}

@@ -1,0 +1,68 @@
+// What a call reads of the table, and the refusals that it judges first.
+ghost use mathlib.Core.Path.{_≡_};
+ghost use mathlib.Core.Bool.{cond};
+ghost use Prim.Native.Nat.{ℕ, _<_, _≤_};
+ghost use lib.Dec.{ltb};
+ghost use lib.ListN.{getD};
+ghost use Rattle.std.specs.declared.result.Result.the-variants.{Ok, Err};
+ghost use Rattle.generator.specs.declared.cell.Cell.the-variants.{Empty};
+ghost use Rattle.generator.specs.Reading.{held, Slot};
+use code::types::Base;
+use crate::binder::Binder;
+use crate::binder::Binding;
+use crate::binder::SameSerial;
+use crate::cell::Cell;
+use crate::cell::Piece;
+use crate::fault::GeneratorFault;
+use crate::names::Names;
+use crate::table::CELLS;
+use crate::table::Table;
+use store::search::find;
+
+// The place of a cell that a caller names by number.
+pub(crate) fn slot(cell: u8) -> Result<usize, GeneratorFault>
+    ensures { λ r. ⌜ Slot cell r ⌝ }
+{
+    let at = cell as usize;
+    if at < CELLS { Ok(at) } else { Err(GeneratorFault::BadArgument) }
+}
+
+impl Table {
+    // The code in a cell.
+    pub(crate) fn read(&self, at: usize) -> Result<Piece, GeneratorFault>
+        requires { ⌜ at < 16 ⌝ }
+        ensures { λ r. ⌜ r ≡ held (getD (now (self .entry) .cells) at Empty) ⌝ }
+    {
+        let Cell::Full(piece) = self.cells[at] else {
+            return Err(GeneratorFault::EmptyCell);
+        };
+        Ok(piece)
+    }
+
+    pub(crate) fn is_open(&self, serial: u16) -> bool {
+        let wanted = Binder { serial, binding: Binding::Parameter(Base::Number) };
+        find(&self.binders[0..self.depth], &wanted).is_some()
+    }
+
+    // How many of the names are not open.
+    pub(crate) fn escaping(&self, names: &Names) -> u8 {
+        let mut count = 0;
+        for serial in names.as_slice() {
+            if !self.is_open(*serial) && count < 16 {
+                count += 1;
+            }
+        }
+        count
+    }
+
+    // Refuses code with a name that is not open.
+    pub(crate) fn judge_use(&self, at: usize, piece: &Piece) -> Result<(), GeneratorFault>
+        requires { ⌜ at < 16 ⌝ }
+    {
+        let names = self.escaping(&piece.names);
+        if names > 0 {
+            return Err(GeneratorFault::Escaped { cell: at as u8, names });
+        }
+        Ok(())
+    }
+}
