@@ -6,3 +6,5 @@ pub mod playing;
 pub mod report;
 pub mod laws;
 pub mod step;
+#[cfg(test)]
+mod tests;
