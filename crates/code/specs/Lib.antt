@@ -4,3 +4,4 @@ pub mod Code
 pub mod Names
 pub mod Typing
 pub mod Text
+pub mod Serials

@@ -4,18 +4,16 @@ ghost use Rattle.std.specs.Orderings.{Decides};
 ghost use Rattle.code.specs.Numbers.{kind};
 use crate::operator::Operator;
 use crate::types::Base;
-use crate::operator::OperatorDebug;
 use crate::operator::OperatorPartialEq;
-use crate::types::BaseDebug;
 use crate::types::BasePartialEq;
 
 // What a store calls a code by.
-#[derive(Clone, Copy, PartialEq, Eq, Debug)]
+#[derive(Clone, Copy, PartialEq, Eq)]
 pub struct Handle {
     pub number: u32,
 }
 
-#[derive(Clone, Copy, PartialEq, Eq, Debug)]
+#[derive(Clone, Copy, PartialEq, Eq)]
 pub enum Construct {
     Number(i32),
     Truth(bool),

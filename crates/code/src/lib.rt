@@ -3,4 +3,6 @@ pub mod operator;
 pub mod types;
 pub mod construct;
 pub mod refusal;
+pub mod names;
+pub mod merging;
 pub mod laws;

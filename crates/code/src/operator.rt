@@ -6,7 +6,7 @@ ghost use Rattle.code.specs.Typing.{takes, gives};
 ghost use Rattle.code.specs.Text.{sign};
 use crate::types::Base;
 
-#[derive(Clone, Copy, PartialEq, Eq, Debug)]
+#[derive(Clone, Copy, PartialEq, Eq)]
 pub enum Operator {
     Add,
     Subtract,

@@ -6,14 +6,14 @@ ghost use Rattle.code.specs.Typing.{joined, chosen, applied, abstracted, same-
 ghost use Rattle.code.specs.Text.{letter};
 use crate::operator::Operator;
 
-#[derive(Clone, Copy, PartialEq, Eq, Debug)]
+#[derive(Clone, Copy, PartialEq, Eq)]
 pub enum Base {
     Number,
     Truth,
 }
 
 // A plain type, or a function from one to another.
-#[derive(Clone, Copy, PartialEq, Eq, Debug)]
+#[derive(Clone, Copy)]
 pub enum Ty {
     Plain(Base),
     Function(Base, Base),

@@ -1,5 +1,5 @@
 // What a granted call answers.
-#[derive(Clone, Copy, Debug)]
+#[derive(Clone, Copy)]
 pub enum Answer {
     Granted,
     // the serial that FUN and LET give

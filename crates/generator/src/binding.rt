@@ -8,7 +8,7 @@ use crate::binder::Binder;
 use crate::binder::Binding;
 use crate::cell::Piece;
 use crate::fault::GeneratorFault;
-use crate::names::Names;
+use code::names::Names;
 use crate::plan::Plan;
 use crate::plan::Scope;
 use crate::planning::judge_size;
@@ -46,9 +46,7 @@ impl Table {
         ensures { λ r. ⌜ Ready (now (self .entry)) r ⌝ }
     {
         let to = slot(cell)?;
-        let a = slot(bound)?;
-        let x = self.read(a)?;
-        self.judge_use(a, &x)?;
+        let x = self.read_one(bound)?;
         self.plan_open(to, Binding::Bound(x))
     }
 
@@ -71,9 +69,7 @@ impl Table {
         ensures { λ r. ⌜ Ready (now (self .entry)) r ⌝ }
     {
         let to = slot(cell)?;
-        let a = slot(body)?;
-        let x = self.read(a)?;
-        self.judge_use(a, &x)?;
+        let x = self.read_one(body)?;
         let binder = self.latest()?;
         match binder.binding {
             Binding::Parameter(base) => plan_function(to, binder.serial, base, &x),

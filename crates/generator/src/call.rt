@@ -1,5 +1,5 @@
 // The calls as data; the cell that receives comes first.
-#[derive(Clone, Copy, Debug)]
+#[derive(Clone, Copy)]
 pub enum Call {
     Num { cell: u8, value: i32 },
     Truth { cell: u8, truth: u8 },

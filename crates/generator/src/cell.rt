@@ -2,7 +2,7 @@
 ghost use mathlib.Core.Path.{_≡_};
 use code::construct::Handle;
 use code::types::Ty;
-use crate::names::Names;
+use code::names::Names;
 
 // A code by its handle in the store, with what the generator knows of it.
 #[derive(Clone, Copy)]

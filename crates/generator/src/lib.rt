@@ -1,7 +1,5 @@
 // The generator: cells, open binders and marks over any store of code, and the printer.
 pub mod call;
-pub mod names;
-pub mod merging;
 pub mod fault;
 pub mod cell;
 pub mod binder;
@@ -13,8 +11,6 @@ pub mod binding;
 pub mod marking;
 pub mod generator;
 pub mod calls;
-pub mod page;
-pub mod spelling;
-pub mod printer;
+pub mod printing;
 pub mod answer;
 pub mod performing;

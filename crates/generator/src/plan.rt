@@ -3,7 +3,7 @@ ghost use Prim.Native.Nat.{_<_};
 use code::construct::Construct;
 use code::types::Ty;
 use crate::binder::Binding;
-use crate::names::Names;
+use code::names::Names;
 
 // What becomes of the open binders once the code is made.
 #[derive(Clone, Copy)]

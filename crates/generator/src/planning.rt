@@ -5,7 +5,7 @@ use code::operator::Operator;
 use code::types::Base;
 use code::types::Ty;
 use crate::fault::GeneratorFault;
-use crate::names::Names;
+use code::names::Names;
 use crate::plan::Plan;
 use crate::plan::Scope;
 use crate::reading::slot;
@@ -51,13 +51,8 @@ impl Table {
         ensures { λ r. ⌜ Keeping r ⌝ }
     {
         let to = slot(cell)?;
-        let a = slot(left)?;
-        let b = slot(right)?;
         let operator = Operator::from_number(operator).ok_or(GeneratorFault::BadArgument)?;
-        let x = self.read(a)?;
-        let y = self.read(b)?;
-        self.judge_use(a, &x)?;
-        self.judge_use(b, &y)?;
+        let (x, y) = self.read_two(left, right)?;
         let ty = Ty::joined(operator, x.ty, y.ty).ok_or(GeneratorFault::WrongType)?;
         let size = judge_size(1 + x.size as u32 + y.size as u32)?;
         let construct = Construct::Join(operator, x.handle, y.handle);
@@ -68,15 +63,7 @@ impl Table {
         ensures { λ r. ⌜ Keeping r ⌝ }
     {
         let to = slot(cell)?;
-        let a = slot(condition)?;
-        let b = slot(then)?;
-        let d = slot(otherwise)?;
-        let x = self.read(a)?;
-        let y = self.read(b)?;
-        let z = self.read(d)?;
-        self.judge_use(a, &x)?;
-        self.judge_use(b, &y)?;
-        self.judge_use(d, &z)?;
+        let (x, y, z) = self.read_three(condition, then, otherwise)?;
         let ty = Ty::chosen(x.ty, y.ty, z.ty).ok_or(GeneratorFault::WrongType)?;
         let size = judge_size(1 + x.size as u32 + y.size as u32 + z.size as u32)?;
         let construct = Construct::Choose(x.handle, y.handle, z.handle);
@@ -88,12 +75,7 @@ impl Table {
         ensures { λ r. ⌜ Keeping r ⌝ }
     {
         let to = slot(cell)?;
-        let f = slot(function)?;
-        let a = slot(argument)?;
-        let x = self.read(f)?;
-        let y = self.read(a)?;
-        self.judge_use(f, &x)?;
-        self.judge_use(a, &y)?;
+        let (x, y) = self.read_two(function, argument)?;
         let ty = Ty::applied(x.ty, y.ty).ok_or(GeneratorFault::WrongType)?;
         let size = judge_size(1 + x.size as u32 + y.size as u32)?;
         let construct = Construct::Apply(x.handle, y.handle);

@@ -14,7 +14,7 @@ use crate::binder::SameSerial;
 use crate::cell::Cell;
 use crate::cell::Piece;
 use crate::fault::GeneratorFault;
-use crate::names::Names;
+use code::names::Names;
 use crate::table::CELLS;
 use crate::table::Table;
 use store::search::find;
@@ -64,5 +64,38 @@ impl Table {
             return Err(GeneratorFault::Escaped { cell: at as u8, names });
         }
         Ok(())
+    }
+
+    // The code of a cell that a call uses.
+    pub(crate) fn read_one(&self, cell: u8) -> Result<Piece, GeneratorFault> {
+        let a = slot(cell)?;
+        let x = self.read(a)?;
+        self.judge_use(a, &x)?;
+        Ok(x)
+    }
+
+    // The codes of two cells: none may be empty, before any is judged as escaped.
+    pub(crate) fn read_two(&self, first: u8, second: u8) -> Result<(Piece, Piece), GeneratorFault> {
+        let a = slot(first)?;
+        let b = slot(second)?;
+        let x = self.read(a)?;
+        let y = self.read(b)?;
+        self.judge_use(a, &x)?;
+        self.judge_use(b, &y)?;
+        Ok((x, y))
+    }
+
+    // The codes of three cells.
+    pub(crate) fn read_three(&self, first: u8, second: u8, third: u8) -> Result<(Piece, Piece, Piece), GeneratorFault> {
+        let a = slot(first)?;
+        let b = slot(second)?;
+        let d = slot(third)?;
+        let x = self.read(a)?;
+        let y = self.read(b)?;
+        let z = self.read(d)?;
+        self.judge_use(a, &x)?;
+        self.judge_use(b, &y)?;
+        self.judge_use(d, &z)?;
+        Ok((x, y, z))
     }
 }

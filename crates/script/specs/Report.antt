@@ -13,7 +13,7 @@ use Rattle.store.specs.declared.meaning.StoreFault.{StoreFault}
 use Rattle.store.specs.declared.meaning.StoreFault.the-variants as store
 use Rattle.generator.specs.declared.fault.GeneratorFault.{GeneratorFault}
 use Rattle.generator.specs.declared.fault.GeneratorFault.the-variants as generator
-use Rattle.generator.specs.Page.{listed}
+use Rattle.text.specs.Page.{listed}
 use Rattle.script.specs.declared.fault.Cause.{Cause}
 use Rattle.script.specs.declared.fault.Cause.the-variants.{BadArgument, Misread, Generator}
 use Rattle.script.specs.declared.fault.RunFault.{RunFault}

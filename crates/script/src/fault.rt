@@ -4,11 +4,9 @@ ghost use Rattle.script.specs.declared.fault.Cause.the-variants.{Misread as Un
 ghost use Rattle.script.specs.Faults.{refused-as, escape-count};
 use code::refusal::Refusal;
 use generator::fault::GeneratorFault;
-use generator::fault::GeneratorFaultDebug;
 use crate::step::Misread;
-use crate::step::MisreadDebug;
 
-#[derive(Clone, Copy, Debug)]
+#[derive(Clone, Copy)]
 pub enum Cause {
     // an argument of the run itself
     BadArgument,
@@ -18,7 +16,7 @@ pub enum Cause {
 }
 
 // A cause, with the place of the step in the script.
-#[derive(Clone, Copy, Debug)]
+#[derive(Clone, Copy)]
 pub struct RunFault {
     pub place: usize,
     pub cause: Cause,

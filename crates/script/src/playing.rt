@@ -12,7 +12,6 @@ use crate::fault::Cause;
 use crate::fault::CauseFromGeneratorFault;
 use crate::fault::CauseFromMisread;
 use crate::fault::RunFault;
-use crate::fault::RunFaultDebug;
 use crate::step::Misread;
 use crate::step::Step;
 
@@ -20,7 +19,7 @@ pub const LONGEST_SCRIPT: usize = 65_535;
 pub const SHORTEST_LIST: usize = 16;
 
 // Where the output ended, the steps granted, and a fault or none.
-#[derive(Clone, Copy, Debug)]
+#[derive(Clone, Copy)]
 pub struct RunAnswer {
     pub end: usize,
     pub steps: usize,

@@ -3,10 +3,9 @@ ghost use mathlib.Core.Path.{_≡_};
 ghost use Rattle.script.specs.Steps.{refusal-of};
 use code::refusal::Refusal;
 use generator::call::Call;
-use generator::call::CallDebug;
 
 // A call, or the handling of a block.
-#[derive(Clone, Copy, Debug)]
+#[derive(Clone, Copy)]
 pub enum Step {
     Call(Call),
     Begin { turns: u8 },

@@ -7,6 +7,7 @@ use store::row::Row;
 use store::sharing::Sharing;
 use store::sharing::SharingStore;
 use crate::playing::play;
+use crate::report::ReportFaultDebug;
 use crate::report::report;
 
 // Plays a script over a sharing layer on so many rows, with so much output, and compares programs and report.

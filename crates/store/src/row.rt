@@ -1,9 +1,8 @@
 // One row of a ledger.
 use code::construct::Construct;
-use code::construct::ConstructDebug;
 
 // A construct over the rows before it, and the size of the code that it stands for.
-#[derive(Clone, Copy, Debug)]
+#[derive(Clone, Copy)]
 pub struct Row {
     pub construct: Construct,
     pub size: u16,

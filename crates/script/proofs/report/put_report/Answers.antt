@@ -5,7 +5,7 @@ use lib.Chars.{codes}
 use Rattle.std.specs.declared.option.Option.{Option}
 use Rattle.std.specs.Written.{decimal}
 use Rattle.code.specs.Numbers.{refusal-number}
-use Rattle.generator.proofs.Laying.{laid-then, laid-same}
+use Rattle.text.proofs.Laying.{laid-then, laid-same}
 use Rattle.script.specs.declared.fault.RunFault.{RunFault}
 use Rattle.script.specs.Report.{line-of, tail}
 use Rattle.script.proofs.report.put_report.Needs as need

@@ -3,8 +3,8 @@ use Prim.Native.Nat.{ℕ, _-_, min}
 use mathlib.Core.Path.{_≡_, ap}
 use lib.ListN.{take}
 use native.Mathlib.Omega.{arith}
-use Rattle.generator.specs.Page.{listed}
-use Rattle.generator.proofs.Laying.{laid-then, laid-same}
+use Rattle.text.specs.Page.{listed}
+use Rattle.text.proofs.Laying.{laid-then, laid-same}
 use Rattle.script.proofs.report.put_tail.Needs as need
 
 pub returns-in-Generator-Escaped : need.returns-in-Generator-Escaped

@@ -1,4 +1,0 @@
-pub mod Laying
-pub mod Digits
-pub mod Printed
-pub mod Merges

@@ -1,5 +1,0 @@
-use Rattle.generator.proofs.Laying.{laid-then}
-use Rattle.generator.proofs.page.put_word_number.Needs as need
-
-pub returns : need.returns
-returns c = laid-then (c .put-place .ensures) (c .put-decimal .ensures)

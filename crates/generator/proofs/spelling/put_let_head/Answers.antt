@@ -1,5 +1,0 @@
-use Rattle.generator.proofs.Laying.{laid-then}
-use Rattle.generator.proofs.spelling.put_let_head.Needs as need
-
-pub returns : need.returns
-returns c = laid-then (laid-then (c .put-at .ensures) (c .put-name-at .ensures)) (c .put .ensures)
