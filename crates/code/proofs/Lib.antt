@@ -1,1 +1,4 @@
 pub mod NameLists
+pub mod FreeNames
+pub mod TypeRules
+pub mod Belongings

@@ -4,3 +4,5 @@ pub mod Code
 pub mod Names
 pub mod Typing
 pub mod Text
+pub mod Exact
+pub mod Belong

@@ -1,9 +1,32 @@
 // The laws of the definitions, each on the contract of a function that does nothing else.
 ghost use Rattle.code.specs.Numbers.{Numbers-exact};
+ghost use Rattle.code.specs.Exact.{Names-exact, Types-exact};
+ghost use Rattle.code.specs.Belong.{Names-belong};
 
 // Each number belongs to one operator or type, and is read back as that.
 pub fn numbers_are_exact() -> u8
     ensures { λ _. ⌜ Numbers-exact ⌝ }
+{
+    0
+}
+
+// The free names of a code are the serials that stand free in it, ascending, each once.
+pub fn free_names_are_exact() -> u8
+    ensures { λ _. ⌜ Names-exact ⌝ }
+{
+    0
+}
+
+// The type of a code is the one that the rules give, told by its free names alone.
+pub fn types_are_exact() -> u8
+    ensures { λ _. ⌜ Types-exact ⌝ }
+{
+    0
+}
+
+// In the spelling of a code each variable bears the name of its own binder, and no nearer one has that name.
+pub fn names_belong() -> u8
+    ensures { λ _. ⌜ Names-belong ⌝ }
 {
     0
 }
