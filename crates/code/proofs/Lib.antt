@@ -2,3 +2,5 @@ pub mod NameLists
 pub mod FreeNames
 pub mod TypeRules
 pub mod Belongings
+pub mod Aparts
+pub mod Examples

@@ -6,3 +6,5 @@ pub mod Typing
 pub mod Text
 pub mod Exact
 pub mod Belong
+pub mod Apart
+pub mod Examples

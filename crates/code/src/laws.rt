@@ -1,7 +1,11 @@
 // The laws of the definitions, each on the contract of a function that does nothing else.
+ghost use mathlib.Core.Path.{_≡_};
+ghost use mathlib.Core.Bool.{true};
 ghost use Rattle.code.specs.Numbers.{Numbers-exact};
 ghost use Rattle.code.specs.Exact.{Names-exact, Types-exact};
 ghost use Rattle.code.specs.Belong.{Names-belong};
+ghost use Rattle.code.specs.Apart.{Texts-apart};
+ghost use Rattle.code.specs.Examples.{examples-hold};
 
 // Each number belongs to one operator or type, and is read back as that.
 pub fn numbers_are_exact() -> u8
@@ -27,6 +31,20 @@ pub fn types_are_exact() -> u8
 // In the spelling of a code each variable bears the name of its own binder, and no nearer one has that name.
 pub fn names_belong() -> u8
     ensures { λ _. ⌜ Names-belong ⌝ }
+{
+    0
+}
+
+// Signs, letters, words, names and numbers are told apart by their bytes, and a choose, a function and a let by how they begin.
+pub fn texts_are_apart() -> u8
+    ensures { λ _. ⌜ Texts-apart ⌝ }
+{
+    0
+}
+
+// Worked codes have the sizes, free names, types and texts written beside them.
+pub fn examples_compute() -> u8
+    ensures { λ _. ⌜ examples-hold ≡ true ⌝ }
 {
     0
 }
