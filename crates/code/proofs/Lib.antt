@@ -4,3 +4,4 @@ pub mod TypeRules
 pub mod Belongings
 pub mod Aparts
 pub mod Examples
+pub mod Readings
