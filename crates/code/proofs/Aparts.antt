@@ -21,6 +21,7 @@ use Rattle.code.specs.Code.{in-range32}
 use Rattle.code.specs.Text.{sign, letter, word}
 use Rattle.code.specs.Apart.{Texts-apart}
 use Rattle.code.proofs.Belongings.{same-name}
+use Rattle.code.proofs.Readings.{same-text}
 
 -- an operator and a plain type are told by the one byte that they are written as
 abbrev operator-by : List ℕ → Option Operator
@@ -68,9 +69,6 @@ small : (n : ℤ) → in-range32 n ≡ true → mag n < 2 ^ 63
 small (pos n) e = let l = ltb-true n (2 ^ 31) e in omega arith
 small (negsuc n) e = let l = ltb-true n (2 ^ 31) e in omega arith
 
-abbrev second : List ℕ → ℕ
-second bytes = getD bytes 1 0
-
 pub texts-apart : Texts-apart
 texts-apart = record {
   one-sign = one-sign;
@@ -80,7 +78,5 @@ texts-apart = record {
   words = same-word;
   names = same-name;
   numbers = λ m n a b. same-from-signed m n (small m a) (small n b);
-  fun-let = λ v w p b e d same. let q : _≡_ {A = ℕ} 102 108 = ap second same in omega arith;
-  fun-if = λ v p b x y z same. let q : _≡_ {A = ℕ} 102 105 = ap second same in omega arith;
-  let-if = λ v e d x y z same. let q : _≡_ {A = ℕ} 108 105 = ap second same in omega arith;
+  texts = same-text;
 }

@@ -4,6 +4,7 @@ use mathlib.Core.Path.{_≡_, refl, sym, subst, ap, _∙_}
 use mathlib.Core.Bool.{Bool, true, false, cond, _&&_, _||_}
 use mathlib.Core.List.{List, [], _∷_, _++_, append-assoc, append-nil}
 use native.Mathlib.Omega.{arith}
+use lib.Chars.{codes}
 use lib.Dec.{eqb, ltb}
 use lib.IntN.{ℤ, pos, negsuc}
 use lib.ListN.{length, getD, drop}
@@ -214,3 +215,174 @@ depth (Text.choose a b d) = 1 + depth a + depth b + depth d
 depth (Text.apply f a) = 1 + depth f + depth a
 depth (Text.function v p b) = 1 + depth b
 depth (Text.letin v e b) = 1 + depth e + depth b
+
+-- the bytes of each form, one part after the other
+regroup : (a m b e r : List ℕ) → (((a ++ m) ++ b) ++ e) ++ r ≡ a ++ (m ++ (b ++ (e ++ r)))
+regroup a m b e r = simp append-assoc
+
+join-bytes : (o : Operator) (a b : Spelled) (r : List ℕ) → flat (Text.join o a b) ++ r ≡ 40 ∷ (flat a ++ (32 ∷ (sign o ++ (32 ∷ (flat b ++ (41 ∷ r))))))
+join-bytes o a b r =
+    ap (λ (l : List ℕ). 40 ∷ l)
+    (regroup (flat a) (between o) (flat b) (codes ")") r ∙ ap (λ (l : List ℕ). flat a ++ (32 ∷ l)) (append-assoc (sign o) (codes " ") (flat b ++ (41 ∷ r))))
+
+choose-bytes : (a b d : Spelled) (r : List ℕ)
+    → flat (Text.choose a b d) ++ r ≡ 40 ∷ 105 ∷ 102 ∷ 32 ∷ (flat a ++ (codes " then " ++ (flat b ++ (codes " else " ++ (flat d ++ (41 ∷ r))))))
+choose-bytes a b d r = simp append-assoc
+
+apply-bytes : (f a : Spelled) (r : List ℕ) → flat (Text.apply f a) ++ r ≡ 40 ∷ (flat f ++ (codes " @ " ++ (flat a ++ (41 ∷ r))))
+apply-bytes f a r = simp append-assoc
+
+function-bytes : (v : List ℕ) (p : Base) (b : Spelled) (r : List ℕ) → flat (Text.function v p b) ++ r ≡ 40 ∷ 102 ∷ 117 ∷ 110 ∷ 32 ∷ (v ++ (58 ∷ (letter p ++ (codes " . " ++ (flat b ++ (41 ∷ r))))))
+function-bytes v p b r =
+    ap (λ (l : List ℕ). 40 ∷ 102 ∷ 117 ∷ 110 ∷ 32 ∷ l)
+    (regroup v (codes ":" ++ letter p ++ codes " . ") (flat b) (codes ")") r ∙ ap (λ (l : List ℕ). v ++ (58 ∷ l)) (append-assoc (letter p) (codes " . ") (flat b ++ (41 ∷ r))))
+
+let-bytes : (v : List ℕ) (e b : Spelled) (r : List ℕ) → flat (Text.letin v e b) ++ r ≡ 40 ∷ 108 ∷ 101 ∷ 116 ∷ 32 ∷ (v ++ (codes " = " ++ (flat e ++ (codes " in " ++ (flat b ++ (41 ∷ r))))))
+let-bytes v e b r = simp append-assoc
+
+-- a reader that reads this spelling
+abbrev Reads : (List ℕ → Read) → Spelled → Type 0
+Reads rd x = (r : List ℕ) → Ends r → rd (flat x ++ r) ≡ (x, r)
+
+pair-join : (o : Operator) (x y : Spelled) (rest : List ℕ) → pair-by (getD (32 ∷ (sign o ++ rest)) 1 0) x y ≡ Text.join o x y
+pair-join Add x y rest = refl
+pair-join Subtract x y rest = refl
+pair-join Multiply x y rest = refl
+pair-join Less x y rest = refl
+pair-join Equal x y rest = refl
+pair-join And x y rest = refl
+pair-join Or x y rest = refl
+
+past-sign : (o : Operator) (rest : List ℕ) → drop 3 (32 ∷ (sign o ++ (32 ∷ rest))) ≡ rest
+past-sign Add rest = refl
+past-sign Subtract rest = refl
+past-sign Multiply rest = refl
+past-sign Less rest = refl
+past-sign Equal rest = refl
+past-sign And rest = refl
+past-sign Or rest = refl
+
+base-letter : (p : Base) (rest : List ℕ) → base-by (getD (58 ∷ (letter p ++ rest)) 1 0) ≡ p
+base-letter Number rest = refl
+base-letter Truth rest = refl
+
+past-letter : (p : Base) (rest : List ℕ) → drop 5 (58 ∷ (letter p ++ (codes " . " ++ rest))) ≡ rest
+past-letter Number rest = refl
+past-letter Truth rest = refl
+
+read-join : (rd : List ℕ → Read) (o : Operator) (a b : Spelled) (r : List ℕ) → Reads rd a → Reads rd b → pair-from rd (rd (flat a ++ (32 ∷ (sign o ++ (32 ∷ (flat b ++ (41 ∷ r))))))) ≡ (Text.join o a b, r)
+read-join rd o a b r ha hb =
+    let rest : List ℕ = flat b ++ (41 ∷ r) in
+    let q : rd (drop 3 (32 ∷ (sign o ++ (32 ∷ rest)))) ≡ (b, 41 ∷ r) = ap rd (past-sign o rest) ∙ hb (41 ∷ r) refl in
+    ap (pair-from rd) (ha (32 ∷ (sign o ++ (32 ∷ rest))) refl)
+    ∙ ap (last-of (pair-by (getD (32 ∷ (sign o ++ (32 ∷ rest))) 1 0) a)) q
+    ∙ ap (λ (x : Spelled). (x, r)) (pair-join o a b (32 ∷ rest))
+
+read-apply : (rd : List ℕ → Read) (f a : Spelled) (r : List ℕ) → Reads rd f → Reads rd a → pair-from rd (rd (flat f ++ (codes " @ " ++ (flat a ++ (41 ∷ r))))) ≡ (Text.apply f a, r)
+read-apply rd f a r hf ha = ap (pair-from rd) (hf (codes " @ " ++ (flat a ++ (41 ∷ r))) refl) ∙ ap (last-of (pair-by 64 f)) (ha (41 ∷ r) refl)
+
+read-choose : (rd : List ℕ → Read) (a b d : Spelled) (r : List ℕ) → Reads rd a → Reads rd b → Reads rd d
+    → then-from rd (rd (flat a ++ (codes " then " ++ (flat b ++ (codes " else " ++ (flat d ++ (41 ∷ r))))))) ≡ (Text.choose a b d, r)
+read-choose rd a b d r ha hb hd =
+    ap (then-from rd) (ha (codes " then " ++ (flat b ++ (codes " else " ++ (flat d ++ (41 ∷ r))))) refl)
+    ∙ ap (else-from rd a) (hb (codes " else " ++ (flat d ++ (41 ∷ r))) refl)
+    ∙ ap (last-of (Text.choose a b)) (hd (41 ∷ r) refl)
+
+-- a function and a let, after their first word
+abbrev function-after : (List ℕ → Read) → List ℕ → List ℕ → Read
+function-after rd v rest = last-of (Text.function v (base-by (getD rest 1 0))) (rd (drop 5 rest))
+
+read-function : (rd : List ℕ → Read) (v : List ℕ) (p : Base) (b : Spelled) (r : List ℕ) → Numbered v → Reads rd b
+    → inside rd abstracting (102 ∷ 117 ∷ 110 ∷ 32 ∷ (v ++ (58 ∷ (letter p ++ (codes " . " ++ (flat b ++ (41 ∷ r))))))) ≡ (Text.function v p b, r)
+read-function rd v p b r hv hb =
+    let rest : List ℕ = flat b ++ (41 ∷ r) in
+    let after : List ℕ = 58 ∷ (letter p ++ (codes " . " ++ rest)) in
+    let w = word-read v after (inner-name v hv) refl in
+    let q : rd (drop 5 after) ≡ (b, 41 ∷ r) = ap rd (past-letter p rest) ∙ hb (41 ∷ r) refl in
+    (λ i. function-after rd (w .0 i) (w .1 i))
+    ∙ ap (last-of (Text.function v (base-by (getD after 1 0)))) q
+    ∙ ap (λ (x : Base). (Text.function v x b, r)) (base-letter p (codes " . " ++ rest))
+
+read-let : (rd : List ℕ → Read) (v : List ℕ) (e b : Spelled) (r : List ℕ) → Numbered v → Reads rd e → Reads rd b
+    → inside rd letting (108 ∷ 101 ∷ 116 ∷ 32 ∷ (v ++ (codes " = " ++ (flat e ++ (codes " in " ++ (flat b ++ (41 ∷ r))))))) ≡ (Text.letin v e b, r)
+read-let rd v e b r hv he hb =
+    let rest : List ℕ = flat e ++ (codes " in " ++ (flat b ++ (41 ∷ r))) in
+    let w = word-read v (codes " = " ++ rest) (inner-name v hv) refl in
+    (λ i. body-from rd (w .0 i) (rd (drop 3 (w .1 i))))
+    ∙ ap (body-from rd v) (he (codes " in " ++ (flat b ++ (41 ∷ r))) refl)
+    ∙ ap (last-of (Text.letin v e)) (hb (41 ∷ r) refl)
+
+-- a word is no bracket
+read-word : (k : ℕ) (w r : List ℕ) (x : Spelled) → Inner w → Ends r → eqb (getD (w ++ r) 0 0) 40 ≡ false → atom w ≡ x → read (suc k) (w ++ r) ≡ (x, r)
+read-word k w r x a e n h =
+    let q = word-read w r a e in
+    cond-false (eqb (getD (w ++ r) 0 0) 40) (inside (read k) (form (drop 1 (w ++ r))) (drop 1 (w ++ r))) (atom (word-of (w ++ r)), past-word (w ++ r)) n
+    ∙ (λ i. (atom (q .0 i), q .1 i)) ∙ ap (λ (y : Spelled). (y, r)) h
+
+decimal-no-bracket : (n : ℕ) (r : List ℕ) → n < 2 ^ 64 → eqb (getD (decimal n ++ r) 0 0) 40 ≡ false
+decimal-no-bracket n r l =
+    let f = first-digit n l in
+    subst (λ (w : List ℕ). eqb (getD (w ++ r) 0 0) 40 ≡ false) (sym (f .2)) (ne-eqb (f .0) 40 (λ e. omega (arith, f .3 .0)))
+
+reads : (k : ℕ) (x : Spelled) → depth x ≤ k → Tidy x → Reads (read k) x
+reads ℕ.zero (Text.number n) l t r e = absurd (omega arith)
+reads ℕ.zero (Text.truth b) l t r e = absurd (omega arith)
+reads ℕ.zero (Text.input i) l t r e = absurd (omega arith)
+reads ℕ.zero (Text.variable v) l t r e = absurd (omega arith)
+reads ℕ.zero (Text.join o a b) l t r e = absurd (omega arith)
+reads ℕ.zero (Text.choose a b d) l t r e = absurd (omega arith)
+reads ℕ.zero (Text.apply f a) l t r e = absurd (omega arith)
+reads ℕ.zero (Text.function v p b) l t r e = absurd (omega arith)
+reads ℕ.zero (Text.letin v x b) l t r e = absurd (omega arith)
+reads (suc k) (Text.number (pos n)) l t r e =
+    let m = ltb-true n (2 ^ 31) t in let h = atom-signed (pos n) t in read-word k (decimal n) r (Text.number (pos n)) (h .1) e (decimal-no-bracket n r (omega arith)) (h .0)
+reads (suc k) (Text.number (negsuc n)) l t r e = let h = atom-signed (negsuc n) t in read-word k (signed (negsuc n)) r (Text.number (negsuc n)) (h .1) e refl (h .0)
+reads (suc k) (Text.truth true) l t r e = read-word k (word true) r (Text.truth true) (atom-word true .1) e refl refl
+reads (suc k) (Text.truth false) l t r e = read-word k (word false) r (Text.truth false) (atom-word false .1) e refl refl
+reads (suc k) (Text.input i) l t r e = read-word k (105 ∷ decimal i) r (Text.input i) (refl, inner-decimal i t) e refl (ap Text.input (decimal-reads i t .1))
+reads (suc k) (Text.variable v) l t r e =
+    read-word k v r (Text.variable v) (inner-name v t) e (subst (λ (w : List ℕ). eqb (getD (w ++ r) 0 0) 40 ≡ false) (sym (t .2)) refl) (atom-name v t)
+reads (suc k) (Text.join o a b) l t r e =
+    ap (read (suc k)) (join-bytes o a b r) ∙ ap (λ (f : Form). inside (read k) f (flat a ++ (32 ∷ (sign o ++ (32 ∷ (flat b ++ (41 ∷ r))))))) (form-part a (32 ∷ (sign o ++ (32 ∷ (flat b ++ (41 ∷ r))))) (t .0))
+    ∙ read-join (read k) o a b r (reads k a (omega arith) (t .0)) (reads k b (omega arith) (t .1))
+reads (suc k) (Text.choose a b d) l t r e =
+    ap (read (suc k)) (choose-bytes a b d r) ∙ read-choose (read k) a b d r (reads k a (omega arith) (t .0)) (reads k b (omega arith) (t .1)) (reads k d (omega arith) (t .2))
+reads (suc k) (Text.apply f a) l t r e =
+    ap (read (suc k)) (apply-bytes f a r) ∙ ap (λ (g : Form). inside (read k) g (flat f ++ (codes " @ " ++ (flat a ++ (41 ∷ r))))) (form-part f (codes " @ " ++ (flat a ++ (41 ∷ r))) (t .0))
+    ∙ read-apply (read k) f a r (reads k f (omega arith) (t .0)) (reads k a (omega arith) (t .1))
+reads (suc k) (Text.function v p b) l t r e = ap (read (suc k)) (function-bytes v p b r) ∙ read-function (read k) v p b r (t .0) (reads k b (omega arith) (t .1))
+reads (suc k) (Text.letin v x b) l t r e = ap (read (suc k)) (let-bytes v x b r) ∙ read-let (read k) v x b r (t .0) (reads k x (omega arith) (t .1)) (reads k b (omega arith) (t .2))
+
+same-spelling : (x y : Spelled) → Tidy x → Tidy y → flat x ≡ flat y → x ≡ y
+same-spelling x y s t e =
+    let k : ℕ = depth x + depth y in
+    let p : read k (flat x) ≡ (x, []) = ap (read k) (sym (append-nil (flat x))) ∙ reads k x (omega arith) s [] tt in
+    let q : read k (flat y) ≡ (y, []) = ap (read k) (sym (append-nil (flat y))) ∙ reads k y (omega arith) t [] tt in
+    ap (λ (z : Read). z .0) (sym p ∙ ap (read k) e ∙ q)
+
+number-small : (around : List ℕ) (s : ℕ) → number-of around s ≤ length around
+number-small [] s = omega arith
+number-small (x ∷ around) s =
+    let h = number-small around s in cond-both (eqb x s) (length around) (number-of around s) (λ n. n ≤ suc (length around)) (λ _. omega arith) (λ _. omega arith)
+
+tidy : (around : List ℕ) (c : Code) → ranged c ≡ true → length around + size c < 2 ^ 64 → Tidy (spelled around c)
+tidy around (Code.number n) g l = g
+tidy around (Code.truth b) g l = tt
+tidy around (Code.input i) g l = let h = ltb-true i 8 g in omega arith
+tidy around (Code.variable s) g l = let h = number-small around s in (number-of around s, omega arith, refl)
+tidy around (Code.join o a b) g l = let h = and-parts (ranged a) (ranged b) g in (tidy around a (h .0) (omega arith), tidy around b (h .1) (omega arith))
+tidy around (Code.choose a b d) g l =
+    let h = and-parts (ranged a && ranged b) (ranged d) g in
+    let h2 = and-parts (ranged a) (ranged b) (h .0) in
+    (tidy around a (h2 .0) (omega arith), tidy around b (h2 .1) (omega arith), tidy around d (h .1) (omega arith))
+tidy around (Code.apply f a) g l = let h = and-parts (ranged f) (ranged a) g in (tidy around f (h .0) (omega arith), tidy around a (h .1) (omega arith))
+tidy around (Code.function s p b) g l =
+    let h = and-parts (ltb s 4096) (ranged b) g in ((length around, omega arith, refl), tidy (s ∷ around) b (h .1) (omega arith))
+tidy around (Code.letin s x b) g l =
+    let h = and-parts (ltb s 4096 && ranged x) (ranged b) g in
+    let h2 = and-parts (ltb s 4096) (ranged x) (h .0) in
+    ((length around, omega arith, refl), tidy around x (h2 .1) (omega arith), tidy (s ∷ around) b (h .1) (omega arith))
+
+pub same-text : (around : List ℕ) (c d : Code) → ranged c ≡ true → ranged d ≡ true → length around + size c < 2 ^ 64 → length around + size d < 2 ^ 64
+    → text around c ≡ text around d → spelled around c ≡ spelled around d
+same-text around c d g h l m = same-spelling (spelled around c) (spelled around d) (tidy around c g l) (tidy around d h m)

@@ -13,7 +13,7 @@ use Rattle.code.specs.declared.types.Base.the-variants.{Number, Truth}
 use Rattle.code.specs.declared.types.Ty.{Ty}
 use Rattle.code.specs.declared.types.Ty.the-variants.{Plain, Function}
 use Rattle.code.specs.Numbers.{type-number}
-use Rattle.code.specs.Code.{Code, size, in-range32, number, truth, input, variable, join, choose, apply, function, letin}
+use Rattle.code.specs.Code.{Code, size, in-range32, ranged, number, truth, input, variable, join, choose, apply, function, letin}
 use Rattle.code.specs.Names.{free}
 use Rattle.code.specs.Typing.{Scope, type-of}
 use Rattle.code.specs.Text.{text}
@@ -108,7 +108,27 @@ untyped-hold =
     && untyped (join Add (letin 0 (number (pos 1)) (variable 0)) (variable 0))
 
 unfoldable pub ranges-hold : Bool
-ranges-hold = in-range32 (pos 2147483647) && in-range32 (negsuc 2147483647) && not (in-range32 (pos 2147483648)) && not (in-range32 (negsuc 2147483648))
+ranges-hold =
+    in-range32 (pos 2147483647)
+    && in-range32 (negsuc 2147483647)
+    && not (in-range32 (pos 2147483648))
+    && not (in-range32 (negsuc 2147483648))
+    && ranged (letin 4095 (function 4095 Number (choose (truth true) (input 7) (variable 4095))) (apply (variable 4095) (join Add (input 0) (number (pos 1)))))
+    && not (ranged (number (pos 2147483648)))
+    && not (ranged (input 8))
+    && not (ranged (variable 4096))
+    && not (ranged (function 4096 Number (truth true)))
+    && not (ranged (letin 4096 (truth true) (truth true)))
+    && not (ranged (function 0 Number (input 8)))
+    && not (ranged (letin 0 (input 8) (input 0)))
+    && not (ranged (letin 0 (input 0) (input 8)))
+    && not (ranged (apply (input 8) (input 0)))
+    && not (ranged (apply (input 0) (input 8)))
+    && not (ranged (join Add (input 8) (input 0)))
+    && not (ranged (join Add (input 0) (input 8)))
+    && not (ranged (choose (input 8) (input 0) (input 0)))
+    && not (ranged (choose (input 0) (input 8) (input 0)))
+    && not (ranged (choose (input 0) (input 0) (input 8)))
 
 unfoldable pub examples-hold : Bool
 examples-hold = plain-codes-hold && binders-hold && open-codes-hold && untyped-hold && ranges-hold

@@ -35,7 +35,7 @@ pub fn names_belong() -> u8
     0
 }
 
-// Signs, letters, words, names and numbers are told apart by their bytes, and a choose, a function and a let by how they begin.
+// No two signs, letters, words, names or numbers are written alike, and codes with one text differ in nothing but their serials.
 pub fn texts_are_apart() -> u8
     ensures { λ _. ⌜ Texts-apart ⌝ }
 {
