@@ -2,32 +2,25 @@
 use Prim.Native.Nat.{ℕ, _^_, _<_}
 use mathlib.Core.Path.{_≡_, refl, sym, ap, _∙_}
 use mathlib.Core.Bool.{Bool, true, false}
-use mathlib.Core.List.{List, [], _∷_}
+use mathlib.Core.List.{List}
 use native.Mathlib.Omega.{arith}
 use lib.IntN.{ℤ, pos, negsuc}
 use lib.ListN.{length, getD}
 use lib.Signed.{mag}
-use Rattle.std.specs.Written.{signed}
-use Rattle.std.specs.declared.option.Option.{Option}
-use Rattle.std.specs.declared.option.Option.the-variants.{Some}
 use Rattle.std.proofs.shelf.Tests.{ltb-true}
 use Rattle.std.proofs.shelf.Decimals.{same-from-signed}
 use Rattle.code.specs.declared.operator.Operator.{Operator}
 use Rattle.code.specs.declared.operator.Operator.the-variants.{Add, Subtract, Multiply, Less, Equal, And, Or}
 use Rattle.code.specs.declared.types.Base.{Base}
 use Rattle.code.specs.declared.types.Base.the-variants.{Number, Truth}
-use Rattle.code.specs.Numbers.{with-number}
 use Rattle.code.specs.Code.{in-range32}
 use Rattle.code.specs.Text.{sign, letter, word}
 use Rattle.code.specs.Apart.{Texts-apart}
 use Rattle.code.proofs.Belongings.{same-name}
-use Rattle.code.proofs.Readings.{same-text}
+use Rattle.code.proofs.Readings.{operator-by, base-by, same-text}
 
 -- an operator and a plain type are told by the one byte that they are written as
-abbrev operator-by : List ℕ → Option Operator
-operator-by bytes = with-number (λ o. getD (sign o) 0 0) (Add ∷ Subtract ∷ Multiply ∷ Less ∷ Equal ∷ And ∷ Or ∷ []) (getD bytes 0 0)
-
-told-operator : (o : Operator) → operator-by (sign o) ≡ Some o
+told-operator : (o : Operator) → operator-by (getD (sign o) 0 0) ≡ o
 told-operator Add = refl
 told-operator Subtract = refl
 told-operator Multiply = refl
@@ -45,19 +38,13 @@ one-sign Equal = refl
 one-sign And = refl
 one-sign Or = refl
 
-abbrev base-by : List ℕ → Option Base
-base-by bytes = with-number (λ p. getD (letter p) 0 0) (Number ∷ Truth ∷ []) (getD bytes 0 0)
-
-told-base : (p : Base) → base-by (letter p) ≡ Some p
+told-base : (p : Base) → base-by (getD (letter p) 0 0) ≡ p
 told-base Number = refl
 told-base Truth = refl
 
 one-letter : (p : Base) → length (letter p) ≡ 1
 one-letter Number = refl
 one-letter Truth = refl
-
-same-some : {A : Type 0} (x y : A) → _≡_ {A = Option A} (Some x) (Some y) → x ≡ y
-same-some x y e = cc
 
 same-word : (a b : Bool) → word a ≡ word b → a ≡ b
 same-word true true e = refl
@@ -72,9 +59,9 @@ small (negsuc n) e = let l = ltb-true n (2 ^ 31) e in omega arith
 pub texts-apart : Texts-apart
 texts-apart = record {
   one-sign = one-sign;
-  signs = λ o u e. same-some o u (sym (told-operator o) ∙ ap operator-by e ∙ told-operator u);
+  signs = λ o u e. sym (told-operator o) ∙ ap (λ (l : List ℕ). operator-by (getD l 0 0)) e ∙ told-operator u;
   one-letter = one-letter;
-  letters = λ p q e. same-some p q (sym (told-base p) ∙ ap base-by e ∙ told-base q);
+  letters = λ p q e. sym (told-base p) ∙ ap (λ (l : List ℕ). base-by (getD l 0 0)) e ∙ told-base q;
   words = same-word;
   names = same-name;
   numbers = λ m n a b. same-from-signed m n (small m a) (small n b);

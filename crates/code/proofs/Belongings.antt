@@ -37,10 +37,10 @@ nearest-named (x ∷ around) s l i =
     (in-cons i))
 
 -- in the body of one more binder
-under : (x : ℕ) (names around : List ℕ) → ((s : ℕ) → In s (without x names) → In s around) → (s : ℕ) → In s names → In s (x ∷ around)
-under x names around i s j = ⊎-elim first-at (λ n. In.later (i s (without-keeps s x names n j))) (cases-eq s x)
+under : (x : ℕ) (names around : List ℕ) → Among (without x names) around → Among names (x ∷ around)
+under x names around i s j = ⊎-elim first-at (λ n. later (i s (without-keeps s x names n j))) (cases-eq s x)
 
-belongs : (c : Code) (around : List ℕ) → length around + size c < 2 ^ 64 → ((s : ℕ) → In s (free c) → In s around) → Belong (named around) c (spelled around c)
+pub belongs : (c : Code) (around : List ℕ) → length around + size c < 2 ^ 64 → Among (free c) around → Belong (named around) c (spelled around c)
 belongs (Code.number n) around l i = Belong.in-number
 belongs (Code.truth b) around l i = Belong.in-truth
 belongs (Code.input j) around l i = Belong.in-input

@@ -1,7 +1,6 @@
 -- The free names of a code: their list is ascending, and its members are just the names that stand free.
 use Prim.Native.Nat.{ℕ}
 use native.Mathlib.Omega.{arith}
-use mathlib.Core.List.{[]}
 use mathlib.Core.Logic.{inl, inr, ⊎-elim}
 use Rattle.code.specs.Code.{Code}
 use Rattle.code.specs.Code

@@ -20,7 +20,7 @@ use Rattle.code.specs.declared.types.Base.{Base}
 use Rattle.code.specs.declared.types.Base.the-variants.{Number, Truth}
 use Rattle.code.specs.Code.{Code, size, ranged, in-range32}
 use Rattle.code.specs.Code
-use Rattle.code.specs.Text.{Spelled, sign, letter, word, name, number-of, spelled, flat, text, between, fun-head, let-head}
+use Rattle.code.specs.Text.{Spelled, sign, letter, word, name, number-of, spelled, flat, text, between}
 use Rattle.code.specs.Text
 
 -- a byte that ends a word
@@ -74,10 +74,10 @@ first-digit n l = go (decimal n) refl (all-digits n l) (decimal-some n l)
     go (d ∷ ds) e a some = (d, ds, e, a .0)
 
 -- a spelling as it comes of a code: its numbers in their ranges, its names those of numbers
-abbrev Numbered : List ℕ → Type 0
+abbrev pub Numbered : List ℕ → Type 0
 Numbered v = (n : ℕ) × (n < 2 ^ 64) × (v ≡ name n)
 
-abbrev Tidy : Spelled → Type 0
+abbrev pub Tidy : Spelled → Type 0
 Tidy (Text.number n) = in-range32 n ≡ true
 Tidy (Text.truth b) = Unit {0}
 Tidy (Text.input i) = i < 2 ^ 64
@@ -169,13 +169,13 @@ abbrev Read : Type 0
 Read = Spelled × List ℕ
 
 -- an operator by its sign, and what two parts make by the byte between them
-abbrev operator-by : ℕ → Operator
+abbrev pub operator-by : ℕ → Operator
 operator-by b = cond (eqb b 43) Add (cond (eqb b 45) Subtract (cond (eqb b 42) Multiply (cond (eqb b 60) Less (cond (eqb b 61) Equal (cond (eqb b 38) And Or)))))
 
 abbrev pair-by : ℕ → Spelled → Spelled → Spelled
 pair-by b x y = cond (eqb b 64) (Text.apply x y) (Text.join (operator-by b) x y)
 
-abbrev base-by : ℕ → Base
+abbrev pub base-by : ℕ → Base
 base-by b = cond (eqb b 110) Number Truth
 
 -- the rest of a form, from its last part and from those before it, by a reader of parts
@@ -353,7 +353,7 @@ reads (suc k) (Text.apply f a) l t r e =
 reads (suc k) (Text.function v p b) l t r e = ap (read (suc k)) (function-bytes v p b r) ∙ read-function (read k) v p b r (t .0) (reads k b (omega arith) (t .1))
 reads (suc k) (Text.letin v x b) l t r e = ap (read (suc k)) (let-bytes v x b r) ∙ read-let (read k) v x b r (t .0) (reads k x (omega arith) (t .1)) (reads k b (omega arith) (t .2))
 
-same-spelling : (x y : Spelled) → Tidy x → Tidy y → flat x ≡ flat y → x ≡ y
+pub same-spelling : (x y : Spelled) → Tidy x → Tidy y → flat x ≡ flat y → x ≡ y
 same-spelling x y s t e =
     let k : ℕ = depth x + depth y in
     let p : read k (flat x) ≡ (x, []) = ap (read k) (sym (append-nil (flat x))) ∙ reads k x (omega arith) s [] tt in

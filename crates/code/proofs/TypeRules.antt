@@ -74,7 +74,7 @@ chosen-right t = ap (λ (b : Bool). cond (true && b) (Some t) None) (type-self t
 applied-right : (p r : Base) → applied (Function p r) (Plain p) ≡ Some (Plain r)
 applied-right p r = ap (λ (b : Bool). cond b (Some (Plain r)) None) (same-self p)
 
-typed-so : {g : Scope} {c : Code} {t : Ty} → Has-type g c t → type-of g c ≡ Some t
+pub typed-so : {g : Scope} {c : Code} {t : Ty} → Has-type g c t → type-of g c ≡ Some t
 typed-so Exact.number = refl
 typed-so Exact.truth = refl
 typed-so Exact.input = refl
@@ -88,7 +88,7 @@ typed-so (Exact.letin {g = g} {s = s} {b = b} x y) = (λ k. then (typed-so x k) 
 the-type : (g : Scope) (c : Code) (t u : Ty) → _≡_ {A = Option Ty} (Some u) (Some t) → Has-type g c u → Has-type g c t
 the-type g c t u e h = let q : u ≡ t = cc in subst (Has-type g c) q h
 
-abbrev Types : Code → Type 0
+abbrev pub Types : Code → Type 0
 Types c = (g : Scope) (t : Ty) → type-of g c ≡ Some t → Has-type g c t
 
 has-join : (o : Operator) (a b : Code) (g : Scope) (t : Ty) (x y : Option Ty) → type-of g a ≡ x → type-of g b ≡ y → Types a → Types b → then x (λ u. then y (joined o u)) ≡ Some t → Has-type g (Code.join o a b) t
@@ -127,7 +127,7 @@ has-let : (s : ℕ) (v b : Code) (g : Scope) (t : Ty) (x : Option Ty) → type-o
 has-let s v b g t None q hv hb e = no-type t e
 has-let s v b g t (Some u) q hv hb e = Exact.letin (hv g u q) (hb ((s, u) ∷ g) t e)
 
-has-type : (c : Code) → Types c
+pub has-type : (c : Code) → Types c
 has-type (Code.number n) g t e = the-type g (Code.number n) t (Plain Number) e Exact.number
 has-type (Code.truth b) g t e = the-type g (Code.truth b) t (Plain Truth) e Exact.truth
 has-type (Code.input i) g t e = the-type g (Code.input i) t (Plain Number) e Exact.input
@@ -177,7 +177,7 @@ past-binder : (s x : ℕ) (t : Ty) (g : Scope) → (s ≡ x → ⊥) → (u : Ty
 past-binder s x t g n r =
     (r .0, told-nearest g s (r .0) (sym (cond-false (eqb x s) (Some t) (type-in g s) (ne-eqb x s (λ e. n (sym e)))) ∙ nearest-told (r .1)))
 
-in-scope : {g : Scope} {c : Code} {t : Ty} → Has-type g c t → (s : ℕ) → In s (free c) → (u : Ty) × Nearest s u g
+pub in-scope : {g : Scope} {c : Code} {t : Ty} → Has-type g c t → (s : ℕ) → In s (free c) → (u : Ty) × Nearest s u g
 in-scope Exact.number s i = absurd (in-none i)
 in-scope Exact.truth s i = absurd (in-none i)
 in-scope Exact.input s i = absurd (in-none i)

@@ -15,7 +15,7 @@ use Rattle.code.specs.declared.types.Ty.the-variants.{Plain, Function}
 use Rattle.code.specs.Numbers.{type-number}
 use Rattle.code.specs.Code.{Code, size, in-range32, ranged, number, truth, input, variable, join, choose, apply, function, letin}
 use Rattle.code.specs.Names.{free}
-use Rattle.code.specs.Typing.{Scope, type-of}
+use Rattle.code.specs.Typing.{type-of}
 use Rattle.code.specs.Text.{text}
 
 abbrev pub same : List ℕ → List ℕ → Bool
