@@ -36,7 +36,9 @@ fn run(rt: &LibcRuntime) -> Result<bool, AnyError> {
     let mut line = [0u8; REPORT];
     let mut serials = [0u16; 16];
     let answer = play_over(rows.as_mut_slice(), script.as_slice(), output.as_mut_slice(), &mut serials);
-    let end = report(&answer, &serials, &mut line, 0).unwrap_or(0);
+    let Ok(end) = report(&answer, &serials, &mut line, 0) else {
+        return Err("the report line does not fit".into());
+    };
     let mut out = rt.stdout();
     out.write_all(&output.as_slice()[0..answer.end.min(OUTPUT)])?;
     out.write_all(&line[0..end.min(REPORT)])?;
@@ -45,8 +47,8 @@ fn run(rt: &LibcRuntime) -> Result<bool, AnyError> {
 
 fn main(rt: LibcRuntime) -> Result<(), AnyError> {
     let done = rt.report(run(&rt))?;
-    if !done {
-        return Err("refused".into());
+    if done {
+        return Ok(());
     }
-    Ok(())
+    rt.report(Err("the script was refused: the last line of the output says why".into()))
 }
