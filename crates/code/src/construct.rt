@@ -3,8 +3,8 @@ ghost use mathlib.Core.Path.{_≡_};
 ghost use Rattle.std.specs.Orderings.{Decides};
 ghost use Rattle.code.specs.Numbers.{kind};
 use crate::operator::Operator;
-use crate::types::Base;
 use crate::operator::OperatorPartialEq;
+use crate::types::Base;
 use crate::types::BasePartialEq;
 
 // What a store calls a code by.

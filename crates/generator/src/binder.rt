@@ -1,9 +1,9 @@
 // A binder that is open, and the search for one by its serial.
 ghost use mathlib.Core.Path.{_≡_};
 ghost use Rattle.generator.specs.Binders.{same-serial, type-bound};
+use crate::cell::Piece;
 use code::types::Base;
 use code::types::Ty;
-use crate::cell::Piece;
 use store::search::Sameness;
 
 // What a binder binds its variable to.

@@ -1,14 +1,10 @@
 // The plans of the calls that open and close binders.
 ghost use Prim.Native.Nat.{_<_};
 ghost use Rattle.generator.specs.Plans.{Ready, Closing, Some-open};
-use code::construct::Construct;
-use code::types::Base;
-use code::types::Ty;
 use crate::binder::Binder;
 use crate::binder::Binding;
 use crate::cell::Piece;
 use crate::fault::GeneratorFault;
-use code::names::Names;
 use crate::plan::Plan;
 use crate::plan::Scope;
 use crate::planning::judge_size;
@@ -16,6 +12,10 @@ use crate::reading::slot;
 use crate::table::MOST_BINDERS;
 use crate::table::MOST_SERIALS;
 use crate::table::Table;
+use code::construct::Construct;
+use code::names::Names;
+use code::types::Base;
+use code::types::Ty;
 
 impl Table {
     // A variable with the next serial, under a binder that opens with it.
@@ -31,7 +31,14 @@ impl Table {
         }
         let construct = Construct::Variable(self.next);
         let names = Names::one(self.next);
-        Ok(Plan { to, construct, ty: binding.variable_type(), size: 1, names, scope: Scope::Opened(binding) })
+        Ok(Plan {
+            to,
+            construct,
+            ty: binding.variable_type(),
+            size: 1,
+            names,
+            scope: Scope::Opened(binding),
+        })
     }
 
     pub(crate) fn plan_fun(&self, cell: u8, parameter: u8) -> Result<Plan, GeneratorFault>
@@ -52,7 +59,11 @@ impl Table {
 
     // The number of binders that were open at the latest mark.
     pub(crate) fn floor(&self) -> usize {
-        if self.marked == 0 { 0 } else { self.marks[self.marked - 1] }
+        if self.marked == 0 {
+            0
+        } else {
+            self.marks[self.marked - 1]
+        }
     }
 
     // The latest binder, where it was opened since the latest mark.
@@ -79,14 +90,26 @@ impl Table {
 }
 
 // The function with this body, its binder closed.
-fn plan_function(to: usize, serial: u16, parameter: Base, body: &Piece) -> Result<Plan, GeneratorFault>
+fn plan_function(
+    to: usize,
+    serial: u16,
+    parameter: Base,
+    body: &Piece,
+) -> Result<Plan, GeneratorFault>
     requires { ⌜ to < 16 ⌝ }
     ensures { λ r. ⌜ Closing r ⌝ }
 {
     let ty = Ty::abstracted(parameter, body.ty).ok_or(GeneratorFault::WrongType)?;
     let size = judge_size(1 + body.size as u32)?;
     let construct = Construct::Function(serial, parameter, body.handle);
-    Ok(Plan { to, construct, ty, size, names: body.names.without(serial), scope: Scope::Closed })
+    Ok(Plan {
+        to,
+        construct,
+        ty,
+        size,
+        names: body.names.without(serial),
+        scope: Scope::Closed,
+    })
 }
 
 // The let with this bound code and body, its binder closed.
@@ -97,5 +120,12 @@ fn plan_let_in(to: usize, serial: u16, bound: &Piece, body: &Piece) -> Result<Pl
     let size = judge_size(1 + bound.size as u32 + body.size as u32)?;
     let construct = Construct::Let(serial, bound.handle, body.handle);
     let names = bound.names.merge(&body.names.without(serial));
-    Ok(Plan { to, construct, ty: body.ty, size, names, scope: Scope::Closed })
+    Ok(Plan {
+        to,
+        construct,
+        ty: body.ty,
+        size,
+        names,
+        scope: Scope::Closed,
+    })
 }

@@ -1,12 +1,12 @@
 // The calls of a generator, each refused by the first of its refusals that applies.
 ghost use mathlib.Core.Path.{_≡_};
-use code::construct::Construct;
-use code::types::Base;
 use crate::fault::GeneratorFault;
 use crate::generator::Generator;
 use crate::planning::plan_input;
 use crate::planning::plan_leaf;
 use crate::planning::plan_truth;
+use code::construct::Construct;
+use code::types::Base;
 use store::meaning::Store;
 
 impl<S: Store> Generator<S> {
@@ -38,7 +38,13 @@ impl<S: Store> Generator<S> {
     }
 
     // Two cells' codes under an operator, into a cell.
-    pub fn join(&mut self, cell: u8, operator: u8, left: u8, right: u8) -> Result<(), GeneratorFault>
+    pub fn join(
+        &mut self,
+        cell: u8,
+        operator: u8,
+        left: u8,
+        right: u8,
+    ) -> Result<(), GeneratorFault>
         requires { ⌜ S·Store .valid (now self .store) ⌝ }
         ensures stays { λ _. ⌜ S·Store .valid (now (self .exit) .store) ⌝ }
     {
@@ -47,7 +53,13 @@ impl<S: Store> Generator<S> {
     }
 
     // A choice between two cells' codes by a third, into a cell.
-    pub fn choose(&mut self, cell: u8, condition: u8, then: u8, otherwise: u8) -> Result<(), GeneratorFault>
+    pub fn choose(
+        &mut self,
+        cell: u8,
+        condition: u8,
+        then: u8,
+        otherwise: u8,
+    ) -> Result<(), GeneratorFault>
         requires { ⌜ S·Store .valid (now self .store) ⌝ }
         ensures stays { λ _. ⌜ S·Store .valid (now (self .exit) .store) ⌝ }
     {

@@ -1,8 +1,8 @@
 // A cell, and the code in it.
 ghost use mathlib.Core.Path.{_≡_};
 use code::construct::Handle;
-use code::types::Ty;
 use code::names::Names;
+use code::types::Ty;
 
 // A code by its handle in the store, with what the generator knows of it.
 #[derive(Clone, Copy)]

@@ -1,8 +1,5 @@
 // A generator over any store, and how it has a plan made.
 ghost use Rattle.generator.specs.Plans.{Room-for};
-use code::construct::Handle;
-use code::types::Base;
-use code::types::Ty;
 use crate::binder::Binder;
 use crate::binder::Binding;
 use crate::cell::Cell;
@@ -10,6 +7,9 @@ use crate::fault::GeneratorFault;
 use crate::fault::GeneratorFaultFromStoreFault;
 use crate::plan::Plan;
 use crate::table::Table;
+use code::construct::Handle;
+use code::types::Base;
+use code::types::Ty;
 use store::meaning::Store;
 
 // The store by value, beside a plain inner table.
@@ -25,7 +25,10 @@ impl<S: Store> Generator<S> {
         requires { ⌜ S·Store .valid store ⌝ }
         ensures { λ r. ⌜ S·Store .valid (r .store) ⌝ }
     {
-        let binder = Binder { serial: 0, binding: Binding::Parameter(Base::Number) };
+        let binder = Binder {
+            serial: 0,
+            binding: Binding::Parameter(Base::Number),
+        };
         let table = Table {
             cells: [Cell::Empty; 16],
             binders: [binder; 16],

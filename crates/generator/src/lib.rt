@@ -1,16 +1,16 @@
 // The generator: cells, open binders and marks over any store of code, and the printer.
-pub mod call;
-pub mod fault;
-pub mod cell;
+pub mod answer;
 pub mod binder;
-pub mod table;
-pub mod reading;
+pub mod binding;
+pub mod call;
+pub mod calls;
+pub mod cell;
+pub mod fault;
+pub mod generator;
+pub mod marking;
+pub mod performing;
 pub mod plan;
 pub mod planning;
-pub mod binding;
-pub mod marking;
-pub mod generator;
-pub mod calls;
 pub mod printing;
-pub mod answer;
-pub mod performing;
+pub mod reading;
+pub mod table;

@@ -1,7 +1,6 @@
 // What a granted call does to the table.
 ghost use mathlib.Core.Path.{_≡_};
 ghost use Rattle.generator.specs.Plans.{Room-for};
-use code::construct::Handle;
 use crate::binder::Binder;
 use crate::cell::Piece;
 use crate::fault::GeneratorFault;
@@ -10,6 +9,7 @@ use crate::plan::Scope;
 use crate::reading::slot;
 use crate::table::MOST_MARKS;
 use crate::table::Table;
+use code::construct::Handle;
 
 impl Table {
     // Puts the code that was made into its cell, and opens or closes its binder.
@@ -19,13 +19,21 @@ impl Table {
         match plan.scope {
             Scope::Kept => {}
             Scope::Opened(binding) => {
-                self.binders[self.depth] = Binder { serial: self.next, binding };
+                self.binders[self.depth] = Binder {
+                    serial: self.next,
+                    binding,
+                };
                 self.depth += 1;
                 self.next += 1;
             }
             Scope::Closed => self.depth -= 1,
         }
-        let piece = Piece { handle, ty: plan.ty, size: plan.size, names: plan.names };
+        let piece = Piece {
+            handle,
+            ty: plan.ty,
+            size: plan.size,
+            names: plan.names,
+        };
         self.cells[plan.to].fill(piece);
     }
 

@@ -9,7 +9,12 @@ use store::meaning::Store;
 
 impl<S: Store> Generator<S> {
     // Performs the call; a print goes into the output from the place on.
-    pub fn perform(&mut self, call: Call, output: &mut [u8], place: usize) -> Result<Answer, GeneratorFault>
+    pub fn perform(
+        &mut self,
+        call: Call,
+        output: &mut [u8],
+        place: usize,
+    ) -> Result<Answer, GeneratorFault>
         requires { ⌜ S·Store .valid (now self .store) ⌝ }
         ensures stays { λ _. ⌜ S·Store .valid (now (self .exit) .store) ⌝ }
     {
@@ -17,18 +22,38 @@ impl<S: Store> Generator<S> {
             Call::Num { cell, value } => self.num(cell, value)?,
             Call::Truth { cell, truth } => self.truth(cell, truth)?,
             Call::Input { cell, input } => self.input(cell, input)?,
-            Call::Join { cell, operator, left, right } => self.join(cell, operator, left, right)?,
-            Call::Choose { cell, condition, then, otherwise } => self.choose(cell, condition, then, otherwise)?,
-            Call::Apply { cell, function, argument } => self.apply(cell, function, argument)?,
-            Call::Fun { cell, parameter } => return Ok(Answer::Opened { serial: self.fun(cell, parameter)? }),
-            Call::Let { cell, bound } => return Ok(Answer::Opened { serial: self.let_in(cell, bound)? }),
+            Call::Join {
+                cell,
+                operator,
+                left,
+                right,
+            } => self.join(cell, operator, left, right)?,
+            Call::Choose {
+                cell,
+                condition,
+                then,
+                otherwise,
+            } => self.choose(cell, condition, then, otherwise)?,
+            Call::Apply {
+                cell,
+                function,
+                argument,
+            } => self.apply(cell, function, argument)?,
+            Call::Fun { cell, parameter } => return Ok(Answer::Opened {
+                serial: self.fun(cell, parameter)?,
+            }),
+            Call::Let { cell, bound } => return Ok(Answer::Opened {
+                serial: self.let_in(cell, bound)?,
+            }),
             Call::Close { cell, body } => self.close(cell, body)?,
             Call::Copy { cell, from } => self.copy(cell, from)?,
             Call::Clear { cell } => self.clear(cell)?,
             Call::Mark => self.mark()?,
             Call::Finish => self.finish()?,
             Call::Leave => self.leave()?,
-            Call::Print { cell } => return Ok(Answer::Printed { end: self.print(cell, output, place)? }),
+            Call::Print { cell } => return Ok(Answer::Printed {
+                end: self.print(cell, output, place)?,
+            }),
         }
         Ok(Answer::Granted)
     }

@@ -1,9 +1,9 @@
 // What a call would make.
 ghost use Prim.Native.Nat.{_<_};
-use code::construct::Construct;
-use code::types::Ty;
 use crate::binder::Binding;
+use code::construct::Construct;
 use code::names::Names;
+use code::types::Ty;
 
 // What becomes of the open binders once the code is made.
 #[derive(Clone, Copy)]

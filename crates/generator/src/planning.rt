@@ -1,16 +1,16 @@
 // The plans of the calls that leave the binders as they are.
 ghost use Rattle.generator.specs.Plans.{Keeping};
-use code::construct::Construct;
-use code::operator::Operator;
-use code::types::Base;
-use code::types::Ty;
 use crate::fault::GeneratorFault;
-use code::names::Names;
 use crate::plan::Plan;
 use crate::plan::Scope;
 use crate::reading::slot;
 use crate::table::LARGEST;
 use crate::table::Table;
+use code::construct::Construct;
+use code::names::Names;
+use code::operator::Operator;
+use code::types::Base;
+use code::types::Ty;
 
 // The size, where it is not too large.
 pub(crate) fn judge_size(size: u32) -> Result<u16, GeneratorFault> {
@@ -25,7 +25,14 @@ pub(crate) fn plan_leaf(cell: u8, construct: Construct, base: Base) -> Result<Pl
     ensures { λ r. ⌜ Keeping r ⌝ }
 {
     let to = slot(cell)?;
-    Ok(Plan { to, construct, ty: Ty::Plain(base), size: 1, names: Names::none(), scope: Scope::Kept })
+    Ok(Plan {
+        to,
+        construct,
+        ty: Ty::Plain(base),
+        size: 1,
+        names: Names::none(),
+        scope: Scope::Kept,
+    })
 }
 
 pub(crate) fn plan_truth(cell: u8, truth: u8) -> Result<Plan, GeneratorFault>
@@ -47,7 +54,13 @@ pub(crate) fn plan_input(cell: u8, input: u8) -> Result<Plan, GeneratorFault>
 }
 
 impl Table {
-    pub(crate) fn plan_join(&self, cell: u8, operator: u8, left: u8, right: u8) -> Result<Plan, GeneratorFault>
+    pub(crate) fn plan_join(
+        &self,
+        cell: u8,
+        operator: u8,
+        left: u8,
+        right: u8,
+    ) -> Result<Plan, GeneratorFault>
         ensures { λ r. ⌜ Keeping r ⌝ }
     {
         let to = slot(cell)?;
@@ -56,10 +69,23 @@ impl Table {
         let ty = Ty::joined(operator, x.ty, y.ty).ok_or(GeneratorFault::WrongType)?;
         let size = judge_size(1 + x.size as u32 + y.size as u32)?;
         let construct = Construct::Join(operator, x.handle, y.handle);
-        Ok(Plan { to, construct, ty, size, names: x.names.merge(&y.names), scope: Scope::Kept })
+        Ok(Plan {
+            to,
+            construct,
+            ty,
+            size,
+            names: x.names.merge(&y.names),
+            scope: Scope::Kept,
+        })
     }
 
-    pub(crate) fn plan_choose(&self, cell: u8, condition: u8, then: u8, otherwise: u8) -> Result<Plan, GeneratorFault>
+    pub(crate) fn plan_choose(
+        &self,
+        cell: u8,
+        condition: u8,
+        then: u8,
+        otherwise: u8,
+    ) -> Result<Plan, GeneratorFault>
         ensures { λ r. ⌜ Keeping r ⌝ }
     {
         let to = slot(cell)?;
@@ -68,10 +94,22 @@ impl Table {
         let size = judge_size(1 + x.size as u32 + y.size as u32 + z.size as u32)?;
         let construct = Construct::Choose(x.handle, y.handle, z.handle);
         let names = x.names.merge(&y.names.merge(&z.names));
-        Ok(Plan { to, construct, ty, size, names, scope: Scope::Kept })
+        Ok(Plan {
+            to,
+            construct,
+            ty,
+            size,
+            names,
+            scope: Scope::Kept,
+        })
     }
 
-    pub(crate) fn plan_apply(&self, cell: u8, function: u8, argument: u8) -> Result<Plan, GeneratorFault>
+    pub(crate) fn plan_apply(
+        &self,
+        cell: u8,
+        function: u8,
+        argument: u8,
+    ) -> Result<Plan, GeneratorFault>
         ensures { λ r. ⌜ Keeping r ⌝ }
     {
         let to = slot(cell)?;
@@ -79,6 +117,13 @@ impl Table {
         let ty = Ty::applied(x.ty, y.ty).ok_or(GeneratorFault::WrongType)?;
         let size = judge_size(1 + x.size as u32 + y.size as u32)?;
         let construct = Construct::Apply(x.handle, y.handle);
-        Ok(Plan { to, construct, ty, size, names: x.names.merge(&y.names), scope: Scope::Kept })
+        Ok(Plan {
+            to,
+            construct,
+            ty,
+            size,
+            names: x.names.merge(&y.names),
+            scope: Scope::Kept,
+        })
     }
 }

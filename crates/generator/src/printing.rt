@@ -1,9 +1,9 @@
 // The call that prints.
-use text::page::put;
-use text::printer::put_code;
 use crate::fault::GeneratorFault;
 use crate::generator::Generator;
 use store::meaning::Store;
+use text::page::put;
+use text::printer::put_code;
 
 impl<S: Store> Generator<S> {
     // Writes a closed code's text and a byte 10 into the output from a place on, and answers the end; a text that does

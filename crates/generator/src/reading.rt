@@ -7,16 +7,16 @@ ghost use lib.ListN.{getD};
 ghost use Rattle.std.specs.declared.result.Result.the-variants.{Ok, Err};
 ghost use Rattle.generator.specs.declared.cell.Cell.the-variants.{Empty};
 ghost use Rattle.generator.specs.Reading.{held, Slot};
-use code::types::Base;
 use crate::binder::Binder;
 use crate::binder::Binding;
 use crate::binder::SameSerial;
 use crate::cell::Cell;
 use crate::cell::Piece;
 use crate::fault::GeneratorFault;
-use code::names::Names;
 use crate::table::CELLS;
 use crate::table::Table;
+use code::names::Names;
+use code::types::Base;
 use store::search::find;
 
 // The place of a cell that a caller names by number.
@@ -24,7 +24,11 @@ pub(crate) fn slot(cell: u8) -> Result<usize, GeneratorFault>
     ensures { λ r. ⌜ Slot cell r ⌝ }
 {
     let at = cell as usize;
-    if at < CELLS { Ok(at) } else { Err(GeneratorFault::BadArgument) }
+    if at < CELLS {
+        Ok(at)
+    } else {
+        Err(GeneratorFault::BadArgument)
+    }
 }
 
 impl Table {
@@ -40,7 +44,10 @@ impl Table {
     }
 
     pub(crate) fn is_open(&self, serial: u16) -> bool {
-        let wanted = Binder { serial, binding: Binding::Parameter(Base::Number) };
+        let wanted = Binder {
+            serial,
+            binding: Binding::Parameter(Base::Number),
+        };
         find(&self.binders[0..self.depth], &wanted).is_some()
     }
 
@@ -61,7 +68,10 @@ impl Table {
     {
         let names = self.escaping(&piece.names);
         if names > 0 {
-            return Err(GeneratorFault::Escaped { cell: at as u8, names });
+            return Err(GeneratorFault::Escaped {
+                cell: at as u8,
+                names,
+            });
         }
         Ok(())
     }
@@ -86,7 +96,12 @@ impl Table {
     }
 
     // The codes of three cells.
-    pub(crate) fn read_three(&self, first: u8, second: u8, third: u8) -> Result<(Piece, Piece, Piece), GeneratorFault> {
+    pub(crate) fn read_three(
+        &self,
+        first: u8,
+        second: u8,
+        third: u8,
+    ) -> Result<(Piece, Piece, Piece), GeneratorFault> {
         let a = slot(first)?;
         let b = slot(second)?;
         let d = slot(third)?;

@@ -4,9 +4,13 @@ use crate::binder::Binder;
 use crate::cell::Cell;
 
 pub const CELLS: usize = 16;
+
 pub const MOST_BINDERS: usize = 16;
+
 pub const MOST_MARKS: usize = 8;
+
 pub const MOST_SERIALS: u16 = 4096;
+
 pub const LARGEST: u32 = 4096;
 
 // A mark is the number of binders that were open when it was set.

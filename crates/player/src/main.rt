@@ -14,7 +14,9 @@ use store::sharing::Sharing;
 use store::sharing::SharingStore;
 
 const ROWS: usize = 2_048;
+
 const OUTPUT: usize = 60_000;
+
 const REPORT: usize = 128;
 
 // One byte more than the longest script tells that a script is too long.
@@ -35,7 +37,12 @@ fn run(rt: &LibcRuntime) -> Result<bool, AnyError> {
     let mut output = vec![in heap; 0u8; OUTPUT]?;
     let mut line = [0u8; REPORT];
     let mut serials = [0u16; 16];
-    let answer = play_over(rows.as_mut_slice(), script.as_slice(), output.as_mut_slice(), &mut serials);
+    let answer = play_over(
+        rows.as_mut_slice(),
+        script.as_slice(),
+        output.as_mut_slice(),
+        &mut serials,
+    );
     let Ok(end) = report(&answer, &serials, &mut line, 0) else {
         return Err("the report line does not fit".into());
     };

@@ -2,9 +2,9 @@
 ghost use mathlib.Core.Path.{_≡_};
 ghost use Rattle.script.specs.declared.fault.Cause.the-variants.{Misread as Unread, Generator as Refused};
 ghost use Rattle.script.specs.Faults.{refused-as, escape-count};
+use crate::step::Misread;
 use code::refusal::Refusal;
 use generator::fault::GeneratorFault;
-use crate::step::Misread;
 
 #[derive(Clone, Copy)]
 pub enum Cause {

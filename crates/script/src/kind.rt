@@ -70,16 +70,51 @@ impl Kind {
         ensures { λ r. ⌜ r ≡ form self .step (λ i. getD (now (body .entry)) i 0) ⌝ }
     {
         match self {
-            Kind::Num => Step::Call(Call::Num { cell: body[0], value: number([body[1], body[2], body[3], body[4]]) }),
-            Kind::Truth => Step::Call(Call::Truth { cell: body[0], truth: body[1] }),
-            Kind::Input => Step::Call(Call::Input { cell: body[0], input: body[1] }),
-            Kind::Join => Step::Call(Call::Join { cell: body[0], operator: body[1], left: body[2], right: body[3] }),
-            Kind::Choose => Step::Call(Call::Choose { cell: body[0], condition: body[1], then: body[2], otherwise: body[3] }),
-            Kind::Apply => Step::Call(Call::Apply { cell: body[0], function: body[1], argument: body[2] }),
-            Kind::Fun => Step::Call(Call::Fun { cell: body[0], parameter: body[1] }),
-            Kind::Let => Step::Call(Call::Let { cell: body[0], bound: body[1] }),
-            Kind::Close => Step::Call(Call::Close { cell: body[0], body: body[1] }),
-            Kind::Copy => Step::Call(Call::Copy { cell: body[0], from: body[1] }),
+            Kind::Num => Step::Call(Call::Num {
+                cell: body[0],
+                value: number([body[1], body[2], body[3], body[4]]),
+            }),
+            Kind::Truth => Step::Call(Call::Truth {
+                cell: body[0],
+                truth: body[1],
+            }),
+            Kind::Input => Step::Call(Call::Input {
+                cell: body[0],
+                input: body[1],
+            }),
+            Kind::Join => Step::Call(Call::Join {
+                cell: body[0],
+                operator: body[1],
+                left: body[2],
+                right: body[3],
+            }),
+            Kind::Choose => Step::Call(Call::Choose {
+                cell: body[0],
+                condition: body[1],
+                then: body[2],
+                otherwise: body[3],
+            }),
+            Kind::Apply => Step::Call(Call::Apply {
+                cell: body[0],
+                function: body[1],
+                argument: body[2],
+            }),
+            Kind::Fun => Step::Call(Call::Fun {
+                cell: body[0],
+                parameter: body[1],
+            }),
+            Kind::Let => Step::Call(Call::Let {
+                cell: body[0],
+                bound: body[1],
+            }),
+            Kind::Close => Step::Call(Call::Close {
+                cell: body[0],
+                body: body[1],
+            }),
+            Kind::Copy => Step::Call(Call::Copy {
+                cell: body[0],
+                from: body[1],
+            }),
             Kind::Clear => Step::Call(Call::Clear { cell: body[0] }),
             Kind::Print => Step::Call(Call::Print { cell: body[0] }),
             Kind::Begin => Step::Begin { turns: body[0] },

@@ -1,10 +1,10 @@
 // Scripts: the steps that their bytes spell.
 pub mod cursor;
-mod kind;
 pub mod fault;
+mod kind;
+pub mod laws;
 pub mod playing;
 pub mod report;
-pub mod laws;
 pub mod step;
 #[cfg(test)]
 mod tests;

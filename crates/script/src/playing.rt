@@ -2,11 +2,6 @@
 ghost use mathlib.Core.Path.{_≡_};
 ghost use Prim.Native.Nat.{ℕ, _<_, _≤_};
 ghost use Rattle.script.specs.Playing.{Goes-on};
-use generator::answer::Answer;
-use generator::call::Call;
-use generator::fault::GeneratorFault;
-use generator::generator::Generator;
-use store::meaning::Store;
 use crate::cursor::Cursor;
 use crate::fault::Cause;
 use crate::fault::CauseFromGeneratorFault;
@@ -14,8 +9,14 @@ use crate::fault::CauseFromMisread;
 use crate::fault::RunFault;
 use crate::step::Misread;
 use crate::step::Step;
+use generator::answer::Answer;
+use generator::call::Call;
+use generator::fault::GeneratorFault;
+use generator::generator::Generator;
+use store::meaning::Store;
 
 pub const LONGEST_SCRIPT: usize = 65_535;
+
 pub const SHORTEST_LIST: usize = 16;
 
 // Where the output ended, the steps granted, and a fault or none.
@@ -46,23 +47,36 @@ fn judge_shape(script: &[u8]) -> Result<(), RunFault> {
         let place = cursor.place();
         match next_call(&mut cursor) {
             Ok(_) => {}
-            Err(misread) => return Err(RunFault { place, cause: Cause::Misread(misread) }),
+            Err(misread) => return Err(RunFault {
+                place,
+                cause: Cause::Misread(misread),
+            }),
         }
     }
     Ok(())
 }
 
 // Judges the arguments, then the shape, then sets the mark.
-fn begin<S: Store>(generator: &mut Generator<S>, script: &[u8], lawful: bool) -> Result<(), RunFault>
+fn begin<S: Store>(
+    generator: &mut Generator<S>,
+    script: &[u8],
+    lawful: bool,
+) -> Result<(), RunFault>
     ensures kept { λ _. ⌜ now (generator .exit) .store ≡ now (generator .entry) .store ⌝ }
 {
     if !lawful || script.len() > LONGEST_SCRIPT {
-        return Err(RunFault { place: 0, cause: Cause::BadArgument });
+        return Err(RunFault {
+            place: 0,
+            cause: Cause::BadArgument,
+        });
     }
     judge_shape(script)?;
     match generator.mark() {
         Ok(()) => Ok(()),
-        Err(fault) => Err(RunFault { place: 0, cause: Cause::Generator(fault) }),
+        Err(fault) => Err(RunFault {
+            place: 0,
+            cause: Cause::Generator(fault),
+        }),
     }
 }
 
@@ -74,7 +88,12 @@ struct Progress {
 }
 
 // Performs one call, printing on.
-fn play_call<S: Store>(generator: &mut Generator<S>, call: Call, output: &mut [u8], progress: &mut Progress) -> Result<(), Cause>
+fn play_call<S: Store>(
+    generator: &mut Generator<S>,
+    call: Call,
+    output: &mut [u8],
+    progress: &mut Progress,
+) -> Result<(), Cause>
     requires { ⌜ S·Store .valid (now generator .store) ⌝ }
     ensures stays { λ _. ⌜ S·Store .valid (now (generator .exit) .store) ⌝ }
 {
@@ -86,7 +105,12 @@ fn play_call<S: Store>(generator: &mut Generator<S>, call: Call, output: &mut [u
 }
 
 // Plays the calls in their order, and stops at the first that is refused.
-fn play_calls<S: Store>(generator: &mut Generator<S>, script: &[u8], output: &mut [u8], progress: &mut Progress) -> Result<(), RunFault>
+fn play_calls<S: Store>(
+    generator: &mut Generator<S>,
+    script: &[u8],
+    output: &mut [u8],
+    progress: &mut Progress,
+) -> Result<(), RunFault>
     requires { ⌜ S·Store .valid (now generator .store) ⌝ }
     ensures stays { λ _. ⌜ S·Store .valid (now (generator .exit) .store) ⌝ }
 {
@@ -95,7 +119,10 @@ fn play_calls<S: Store>(generator: &mut Generator<S>, script: &[u8], output: &mu
         let place = cursor.place();
         let call = match next_call(&mut cursor) {
             Ok(call) => call,
-            Err(misread) => return Err(RunFault { place, cause: Cause::Misread(misread) }),
+            Err(misread) => return Err(RunFault {
+                place,
+                cause: Cause::Misread(misread),
+            }),
         };
         match play_call(generator, call, output, progress) {
             Ok(()) => {}
@@ -104,26 +131,46 @@ fn play_calls<S: Store>(generator: &mut Generator<S>, script: &[u8], output: &mu
     }
     match generator.finish() {
         Ok(()) => Ok(()),
-        Err(fault) => Err(RunFault { place: script.len(), cause: Cause::Generator(fault) }),
+        Err(fault) => Err(RunFault {
+            place: script.len(),
+            cause: Cause::Generator(fault),
+        }),
     }
 }
 
 // Plays a script of calls: judges the arguments and the shape of the whole, marks, plays, printing on from the place,
 // and finishes. After a refusal past its mark it leaves the mark, and an escape's serials go to the front of the list.
-pub fn play<S: Store>(generator: &mut Generator<S>, script: &[u8], output: &mut [u8], place: usize, serials: &mut [u16]) -> RunAnswer
+pub fn play<S: Store>(
+    generator: &mut Generator<S>,
+    script: &[u8],
+    output: &mut [u8],
+    place: usize,
+    serials: &mut [u16],
+) -> RunAnswer
     requires { ⌜ S·Store .valid (now generator .store) ⌝ }
     ensures stays { λ _. ⌜ S·Store .valid (now (generator .exit) .store) ⌝ }
 {
     let lawful = place <= output.len() && serials.len() >= SHORTEST_LIST;
-    let mut progress = Progress { end: place, steps: 0 };
+    let mut progress = Progress {
+        end: place,
+        steps: 0,
+    };
     if let Err(fault) = begin(generator, script, lawful) {
-        return RunAnswer { end: place, steps: 0, fault: Some(fault) };
+        return RunAnswer {
+            end: place,
+            steps: 0,
+            fault: Some(fault),
+        };
     }
     let fault = match play_calls(generator, script, output, &mut progress) {
         Ok(()) => None,
         Err(fault) => Some(stop(generator, fault, serials)),
     };
-    RunAnswer { end: progress.end, steps: progress.steps, fault }
+    RunAnswer {
+        end: progress.end,
+        steps: progress.steps,
+        fault,
+    }
 }
 
 // Leaves the mark after a refusal, the serials of an escape listed before.

@@ -5,15 +5,15 @@ ghost use Prim.Native.Nat.{ℕ, _≤_};
 ghost use lib.ListN.{length};
 ghost use Rattle.text.specs.Page.{Laid};
 ghost use Rattle.script.specs.Report.{tail, report-line, refused-as};
-use code::refusal::Refusal;
-use generator::fault::GeneratorFault;
-use text::page::put;
-use text::page::put_serials;
-use text::page::put_word_number;
-use store::meaning::StoreFault;
 use crate::fault::Cause;
 use crate::playing::RunAnswer;
 use crate::playing::SHORTEST_LIST;
+use code::refusal::Refusal;
+use generator::fault::GeneratorFault;
+use store::meaning::StoreFault;
+use text::page::put;
+use text::page::put_serials;
+use text::page::put_word_number;
 
 // Why no report was written.
 #[derive(Clone, Copy, PartialEq, Eq, Debug)]
@@ -68,7 +68,12 @@ fn put_report(out: &mut [u8], at: usize, answer: &RunAnswer, serials: &[u16]) ->
 }
 
 // Writes the report line of a run at a place, and answers its end; what does not fit writes nothing.
-pub fn report(answer: &RunAnswer, serials: &[u16], output: &mut [u8], place: usize) -> Result<usize, ReportFault> {
+pub fn report(
+    answer: &RunAnswer,
+    serials: &[u16],
+    output: &mut [u8],
+    place: usize,
+) -> Result<usize, ReportFault> {
     let escaped = match answer.fault {
         Some(fault) => fault.cause.escape_count(),
         None => 0,

@@ -5,8 +5,6 @@ ghost use Prim.Native.Nat.{ℕ, _≤_, _<_};
 ghost use lib.ListN.{length, take};
 ghost use Rattle.text.specs.Page.{Laid};
 ghost use Rattle.text.specs.Printing.{nearest-first, text-of, Room-around};
-use code::construct::Construct;
-use code::construct::Handle;
 use crate::page::put;
 use crate::page::put_signed;
 use crate::page::put_word_number;
@@ -16,6 +14,8 @@ use crate::spelling::put_fun_head;
 use crate::spelling::put_let_head;
 use crate::spelling::put_name;
 use crate::spelling::put_truth;
+use code::construct::Construct;
+use code::construct::Handle;
 use store::meaning::Store;
 
 // The most binders that a code of a store can hold, one in the body of another.
@@ -23,7 +23,14 @@ pub const MOST_AROUND: usize = 4096;
 
 // Lays the text of the handle's code from a place on, and answers the place after it. It stands in the bodies of
 // the binders whose serials are the first `depth` of `around`, the outermost first.
-fn write_code<S: Store>(store: &S, handle: Handle, around: &mut [u16], depth: usize, out: &mut [u8], at: usize) -> usize
+fn write_code<S: Store>(
+    store: &S,
+    handle: Handle,
+    around: &mut [u16],
+    depth: usize,
+    out: &mut [u8],
+    at: usize,
+) -> usize
     requires { ⌜ S·Store .valid (now store) ⌝ ∗ ⌜ Room-around (now around) depth (S·Store .code (now store) handle) ⌝ ∗ ⌜ length (now around) ≤ 4096 ⌝ }
     ensures kept { λ _. ⌜ take depth (now (around .exit)) ≡ take depth (now (around .entry)) ⌝ }
     ensures laid { λ r. ⌜ Laid (now (out .entry)) at (text-of (nearest-first (now (around .entry)) depth) (S·Store .code (now (store .entry)) handle)) (now (out .exit)) r ⌝ }

@@ -8,16 +8,20 @@ ghost use Rattle.std.specs.Written.{decimal};
 ghost use Rattle.code.specs.Text.{word, name, number-of, between, fun-head, let-head};
 ghost use Rattle.text.specs.Page.{Laid};
 ghost use Rattle.text.specs.Printing.{nearest-first};
-use code::operator::Operator;
-use code::types::Base;
 use crate::page::put;
 use crate::page::put_decimal;
 use crate::page::put_word_number;
+use code::operator::Operator;
+use code::types::Base;
 
 pub(crate) fn put_truth(out: &mut [u8], at: usize, truth: bool) -> usize
     ensures { λ r. ⌜ Laid (now (out .entry)) at (word truth) (now (out .exit)) r ⌝ }
 {
-    if truth { put(out, at, b"true") } else { put(out, at, b"false") }
+    if truth {
+        put(out, at, b"true")
+    } else {
+        put(out, at, b"false")
+    }
 }
 
 // The name of a binder that stands in `level` bodies.

@@ -18,8 +18,8 @@ returns-in-Join g t c =
     record {
       kept = c .write-code-p-in-Join .ensures .kept ∙ k;
       laid =
-        laid-same (join-text f (c .args .handle) (c .in-Some .construct) (c .in-Some .ensures tt) (nearest-first xs n) (c .in-Join .operator) (c .in-Join .left) (c .in-Join .right) (c .in-Join .is))
-        (laid-then (laid-then (laid-then (laid-then (c .put-p .ensures) (c .write-code-p .ensures .laid)) (c .put-between-p .ensures)) (laid-same (under (f (c .in-Join .right)) n (c .write-code-p .last .around) xs k) (c .write-code-p-in-Join .ensures .laid))) (c .put-in-Join .ensures));
+          laid-same (join-text f (c .args .handle) (c .in-Some .construct) (c .in-Some .ensures tt) (nearest-first xs n) (c .in-Join .operator) (c .in-Join .left) (c .in-Join .right) (c .in-Join .is))
+          (laid-then (laid-then (laid-then (laid-then (c .put-p .ensures) (c .write-code-p .ensures .laid)) (c .put-between-p .ensures)) (laid-same (under (f (c .in-Join .right)) n (c .write-code-p .last .around) xs k) (c .write-code-p-in-Join .ensures .laid))) (c .put-in-Join .ensures));
     }
 
 pub returns-in-Choose : need.returns-in-Choose
@@ -32,8 +32,8 @@ returns-in-Choose g t c =
     record {
       kept = c .write-code-p-in-Choose-3 .ensures .kept ∙ k2;
       laid =
-        laid-same (choose-text f (c .args .handle) (c .in-Some .construct) (c .in-Some .ensures tt) (nearest-first xs n) (c .in-Choose .condition) (c .in-Choose .then) (c .in-Choose .otherwise) (c .in-Choose .is))
-        (laid-then (laid-then (laid-then (laid-then (laid-then (laid-then (c .put-p-in-Choose .ensures) (c .write-code-p-in-Choose .ensures .laid)) (c .put-p-in-Choose-2 .ensures))
+          laid-same (choose-text f (c .args .handle) (c .in-Some .construct) (c .in-Some .ensures tt) (nearest-first xs n) (c .in-Choose .condition) (c .in-Choose .then) (c .in-Choose .otherwise) (c .in-Choose .is))
+          (laid-then (laid-then (laid-then (laid-then (laid-then (laid-then (c .put-p-in-Choose .ensures) (c .write-code-p-in-Choose .ensures .laid)) (c .put-p-in-Choose-2 .ensures))
           (laid-same (under (f (c .in-Choose .then)) n (c .write-code-p-in-Choose .last .around) xs k) (c .write-code-p-in-Choose-2 .ensures .laid))) (c .put-p-in-Choose-3 .ensures))
           (laid-same (under (f (c .in-Choose .otherwise)) n (c .write-code-p-in-Choose-2 .last .around) xs k2) (c .write-code-p-in-Choose-3 .ensures .laid))) (c .put-in-Choose .ensures));
     }
@@ -47,8 +47,8 @@ returns-in-Apply g t c =
     record {
       kept = c .write-code-p-in-Apply-2 .ensures .kept ∙ k;
       laid =
-        laid-same (apply-text f (c .args .handle) (c .in-Some .construct) (c .in-Some .ensures tt) (nearest-first xs n) (c .in-Apply .function) (c .in-Apply .argument) (c .in-Apply .is))
-        (laid-then (laid-then (laid-then (laid-then (c .put-p-in-Apply .ensures) (c .write-code-p-in-Apply .ensures .laid)) (c .put-p-in-Apply-2 .ensures)) (laid-same (under (f (c .in-Apply .argument)) n (c .write-code-p-in-Apply .last .around) xs k) (c .write-code-p-in-Apply-2 .ensures .laid))) (c .put-in-Apply .ensures));
+          laid-same (apply-text f (c .args .handle) (c .in-Some .construct) (c .in-Some .ensures tt) (nearest-first xs n) (c .in-Apply .function) (c .in-Apply .argument) (c .in-Apply .is))
+          (laid-then (laid-then (laid-then (laid-then (c .put-p-in-Apply .ensures) (c .write-code-p-in-Apply .ensures .laid)) (c .put-p-in-Apply-2 .ensures)) (laid-same (under (f (c .in-Apply .argument)) n (c .write-code-p-in-Apply .last .around) xs k) (c .write-code-p-in-Apply-2 .ensures .laid))) (c .put-in-Apply .ensures));
     }
 
 pub returns-in-Function : need.returns-in-Function
@@ -63,8 +63,8 @@ returns-in-Function g t c =
     record {
       kept = nearest-kept (c .write-code-p-in-Function .last .around) xs n s (c .write-code-p-in-Function .ensures .kept);
       laid =
-        laid-same (function-text f (c .args .handle) (c .in-Some .construct) (c .in-Some .ensures tt) (nearest-first xs n) s (c .in-Function .parameter) (c .in-Function .body) n (c .in-Function .is) (nearest-length xs n le))
-        (laid-then (laid-then (c .put-fun-head-p .ensures) (laid-same (inner (f (c .in-Function .body)) n s xs xs lt refl) (c .write-code-p-in-Function .ensures .laid))) (c .put-in-Function .ensures));
+          laid-same (function-text f (c .args .handle) (c .in-Some .construct) (c .in-Some .ensures tt) (nearest-first xs n) s (c .in-Function .parameter) (c .in-Function .body) n (c .in-Function .is) (nearest-length xs n le))
+          (laid-then (laid-then (c .put-fun-head-p .ensures) (laid-same (inner (f (c .in-Function .body)) n s xs xs lt refl) (c .write-code-p-in-Function .ensures .laid))) (c .put-in-Function .ensures));
     }
 
 pub returns-in-Let : need.returns-in-Let
@@ -81,6 +81,6 @@ returns-in-Let g t c =
     record {
       kept = nearest-kept (c .write-code-p-in-Let-2 .last .around) ys n s (c .write-code-p-in-Let-2 .ensures .kept) ∙ k;
       laid =
-        laid-same (let-text f (c .args .handle) (c .in-Some .construct) (c .in-Some .ensures tt) (nearest-first xs n) s (c .in-Let .bound) (c .in-Let .body) n (c .in-Let .is) (nearest-length xs n le))
-        (laid-then (laid-then (laid-then (laid-then (c .put-let-head-p .ensures) (c .write-code-p-in-Let .ensures .laid)) (c .put-p-in-Let .ensures)) (laid-same (inner (f (c .in-Let .body)) n s ys xs lt k) (c .write-code-p-in-Let-2 .ensures .laid))) (c .put-in-Let .ensures));
+          laid-same (let-text f (c .args .handle) (c .in-Some .construct) (c .in-Some .ensures tt) (nearest-first xs n) s (c .in-Let .bound) (c .in-Let .body) n (c .in-Let .is) (nearest-length xs n le))
+          (laid-then (laid-then (laid-then (laid-then (c .put-let-head-p .ensures) (c .write-code-p-in-Let .ensures .laid)) (c .put-p-in-Let .ensures)) (laid-same (inner (f (c .in-Let .body)) n s ys xs lt k) (c .write-code-p-in-Let-2 .ensures .laid))) (c .put-in-Let .ensures));
     }
