@@ -4,3 +4,6 @@ pub mod Reading
 pub mod Plans
 pub mod Model
 pub mod Calls
+pub mod Finish
+pub mod Refusals
+pub mod Exact

@@ -7,6 +7,7 @@ pub mod calls;
 pub mod cell;
 pub mod fault;
 pub mod generator;
+pub mod laws;
 pub mod marking;
 pub mod performing;
 pub mod plan;
