@@ -1,5 +1,5 @@
 -- Each call is refused with the first refusal that applies.
-use Prim.Native.Nat.{ℕ, suc, _+_, _≤_, _<_}
+use Prim.Native.Nat.{ℕ, _+_, _≤_, _<_}
 use mathlib.Core.Path.{_≡_, refl, sym, subst, ap, _∙_}
 use mathlib.Core.Bool.{Bool, true, false, cond, _&&_}
 use mathlib.Core.List.{List, [], _∷_, _++_}
@@ -8,7 +8,7 @@ use native.Mathlib.Omega.{arith}
 use lib.Dec.{eqb, ltb, leb}
 use lib.IntN.{ℤ}
 use lib.ListN.{length, getD}
-use Rattle.std.proofs.shelf.Tests.{ltb-true, ltb-false, leb-true, leb-false, eqb-true, eqb-false, lt-ltb, le-ltb}
+use Rattle.std.proofs.shelf.Tests.{ltb-true, ltb-false, leb-true, leb-false, eqb-true, eqb-false}
 use Rattle.std.specs.declared.option.Option.{Option}
 use Rattle.std.specs.declared.option.Option.the-variants.{Some, None}
 use Rattle.std.specs.declared.result.Result.{Result}
@@ -22,17 +22,17 @@ use Rattle.code.specs.Typing.{joined, chosen, applied, abstracted}
 use Rattle.code.specs.Numbers.{operator, base}
 use Rattle.code.specs.Members.{In}
 use Rattle.generator.specs.Model
-use Rattle.generator.specs.Model.{State, Piece, Binder, parameter, bound, Plan, Refusal, Fault, plain, escaped, no-room, refusal, number, stated, cell, judged, judge, full, typed, lawful, usable, escaping, floor, leaf, opened, closed-with, close-latest, finish-mark, leave-mark, print-plan}
+use Rattle.generator.specs.Model.{State, Piece, Binder, parameter, bound, Plan, Refusal, Fault, plain, escaped, no-room, refusal, number, stated, cell, judged, judge, full, typed, lawful, usable, escaping, floor, closed-with, close-latest, finish-mark, leave-mark}
 use Rattle.generator.specs.Calls.{Sheet, Fate, Deed, makes, moves, prints, deed, made, does, kept, settled, answered, refused}
 use Rattle.generator.specs.declared.call.Call.{Call}
 use Rattle.generator.specs.Finish.{uses, lawful-arguments}
-use Rattle.generator.specs.Refusals.{reads, first-escape, escape-at, Applies, First, First-refusal, Refusals-in-order}
+use Rattle.generator.specs.Refusals.{first-escape, escape-at, Applies, First, First-refusal, Refusals-in-order}
 use Rattle.generator.specs.Refusals
 use Rattle.generator.specs.declared.call.Call.the-variants as call
 use Rattle.code.proofs.NameLists.{in-none, in-cons}
 use Rattle.generator.proofs.Numbers.{operator-none, operator-some, base-none, base-some}
 
--- numbers
+-- a refusal is told by its number
 abbrev table : List Refusal
 table = Model.bad-argument ∷ Model.bad-argument ∷ Model.unknown-kind ∷ Model.cut-short ∷ Model.no-block ∷ Model.steps-spent ∷ Model.empty-cell ∷ Model.bad-argument ∷ Model.no-binder ∷ Model.no-mark ∷ Model.still-open ∷ Model.not-closed ∷ Model.wrong-type ∷ Model.too-deep ∷ Model.names-spent ∷ Model.too-large ∷ Model.bad-argument ∷ Model.short-output ∷ []
 

@@ -1,4 +1,4 @@
--- What the calls of a script's steps do to the marks and the open binders.
+-- What each call but MARK, FINISH and LEAVE does to the marks and the open binders.
 use Prim.Native.Nat.{ℕ, _+_, _≤_}
 use mathlib.Core.Path.{_≡_, refl}
 use mathlib.Core.Bool.{_&&_}

@@ -15,7 +15,7 @@ use Rattle.std.specs.declared.result.Result.the-variants.{Ok, Err}
 use Rattle.code.specs.declared.types.Base.the-variants.{Number, Truth}
 use Rattle.code.specs.declared.types.Ty.{Ty}
 use Rattle.code.specs.declared.types.Ty.the-variants.{Plain}
-use Rattle.code.specs.Code.{Code, size, in-range32}
+use Rattle.code.specs.Code.{Code, in-range32}
 use Rattle.code.specs.Code
 use Rattle.code.specs.Numbers.{operator, base}
 use Rattle.generator.specs.Model

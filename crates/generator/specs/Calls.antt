@@ -1,4 +1,4 @@
--- The calls, runs aside, and what each of them comes to.
+-- What each call comes to: the state after it, the output and the answer.
 use Prim.Native.Nat.{ℕ, _+_}
 use mathlib.Core.List.{List, _++_}
 use lib.Dec.{eqb, ltb}
@@ -14,7 +14,7 @@ use Rattle.code.specs.Code.{in-range32}
 use Rattle.code.specs.Code
 use Rattle.generator.specs.declared.call.Call.{Call}
 use Rattle.generator.specs.declared.call.Call.the-variants as call
-use Rattle.generator.specs.Model.{State, Plan, Fault, plain, Limits, stated, bad-argument, no-room, judge, leaf, join-plan, choose-plan, apply-plan, fun-plan, let-plan, close-plan, copied, cleared, marked, finished, left, print-plan}
+use Rattle.generator.specs.Model.{State, Plan, Fault, Limits, stated, bad-argument, no-room, judge, leaf, join-plan, choose-plan, apply-plan, fun-plan, let-plan, close-plan, copied, cleared, marked, finished, left, print-plan}
 
 -- the output, and the place of it to print at
 pub record Sheet : Type 0 where
@@ -28,17 +28,21 @@ sheet bytes at = record { bytes = bytes; at = at }
 abbrev pub Fate : Type 0
 Fate = Option (ℕ × ℕ)
 
+-- a plan carried out where the store grants it
 abbrev pub made : Fate → Result Plan Fault → Result State Fault
 made fate (Err f) = Err f
 made None (Ok p) = Ok (p .after)
 made (Some r) (Ok p) = Err (no-room (r .0) (r .1))
 
+-- the numbers are of 32 bits
 abbrev pub num-plan : State → ℕ → ℤ → Result Plan Fault
 num-plan st c n = judge (in-range32 n) bad-argument (leaf st c (Code.number n) (Plain Number))
 
+-- 0 is false, 1 is true
 abbrev pub truth-plan : State → ℕ → ℕ → Result Plan Fault
 truth-plan st c b = judge (ltb b 2) bad-argument (leaf st c (Code.truth (eqb b 1)) (Plain Truth))
 
+-- the inputs are 0 to 7
 abbrev pub input-plan : State → ℕ → ℕ → Result Plan Fault
 input-plan st c i = judge (ltb i 8) bad-argument (leaf st c (Code.input i) (Plain Number))
 
@@ -48,6 +52,7 @@ pub data Deed : Type 0 where
   moves : Result State Fault → Deed
   prints : Result (List ℕ) Fault → Deed
 
+-- what each call comes to, in a state and with an output
 abbrev pub deed : Limits → Sheet → State → Call → Deed
 deed l output st (call.Num c n) = makes (num-plan st c n)
 deed l output st (call.Truth c b) = makes (truth-plan st c b)
@@ -65,6 +70,7 @@ deed l output st call.Finish = moves (finished l st)
 deed l output st call.Leave = moves (left l st)
 deed l output st (call.Print a) = prints (print-plan st a (output .at) (output .bytes))
 
+-- a print leaves the state as it is
 abbrev pub kept : {A : Type 0} → State → Result A Fault → Result State Fault
 kept st (Ok x) = Ok st
 kept st (Err f) = Err f
@@ -95,6 +101,7 @@ pub record Done : Type 0 where
   pub output : List ℕ
   pub answer : Answer
 
+-- a refused call changes nothing
 abbrev pub made-answer : State → List ℕ → Fate → Result Plan Fault → Done
 made-answer st output fate (Err f) = record { state = st; output = output; answer = refused f }
 made-answer st output None (Ok p) = record { state = p .after; output = output; answer = granted (p .given) }

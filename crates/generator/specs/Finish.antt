@@ -5,7 +5,6 @@ use mathlib.Core.Bool.{Bool, true, _&&_}
 use mathlib.Core.List.{List, [], _∷_, _++_}
 use mathlib.Core.Logic.{_⊎_}
 use lib.Dec.{ltb, leb}
-use lib.IntN.{ℤ}
 use lib.ListN.{length}
 use Rattle.std.specs.declared.option.Option.{Option}
 use Rattle.std.specs.declared.option.Option.the-variants.{Some, None}
@@ -48,6 +47,7 @@ pub data Context : Type 0 where
   let-bound : ℕ → Context → Code → Context
   let-body : ℕ → Code → Context → Context
 
+-- the code with c at that place
 abbrev pub plug : Context → Code → Code
 plug here c = c
 plug (join-left o k b) c = Code.join o (plug k c) b
@@ -86,9 +86,11 @@ pub record Holds (st : State) (c : Code) (context : Context) : Type 0 where
   pub these : around [] context ≡ Some binders
   pub allowed : (s : ℕ) (t : Ty) → In (s, t) binders → Allowed st s t
 
+-- some program holds c so
 abbrev pub Finishable : State → Code → Type 0
 Finishable st c = (context : Context) × Holds st c context
 
+-- a refused call leaves the state as it is
 abbrev pub after : State → Result State Fault → State
 after st (Ok s) = s
 after st (Err f) = st
@@ -116,7 +118,7 @@ uses call.Finish = []
 uses call.Leave = []
 uses (call.Print a) = a ∷ []
 
--- none of the refusals before ESCAPED applies: the arguments are lawful and the cells that are read are full
+-- the arguments are lawful: cells below 16, the other numbers in their ranges, and the place within the output
 abbrev pub lawful-arguments : Sheet → Call → Bool
 lawful-arguments output (call.Num c n) = ltb c 16 && in-range32 n
 lawful-arguments output (call.Truth c b) = ltb c 16 && ltb b 2
@@ -134,16 +136,19 @@ lawful-arguments output call.Finish = true
 lawful-arguments output call.Leave = true
 lawful-arguments output (call.Print a) = ltb a 16 && leb (output .at) (length (output .bytes))
 
+-- cell i holds a code
 abbrev pub Full : State → ℕ → Type 0
 Full st i = (p : Piece) × (cell st i ≡ Some p)
 
+-- the call is refused as escaped
 abbrev pub Escapes : Sheet → State → Call → Type 0
 Escapes output st c = (i : ℕ) × (n : ℕ) × (does stated output st c ≡ Err (escaped i n))
 
+-- the call uses a cell whose code can't be finished
 abbrev pub Unfinishable : State → Call → Type 0
 Unfinishable st c = (i : ℕ) × (p : Piece) × In i (uses c) × (cell st i ≡ Some p) × (Finishable st (p .code) → ⊥)
 
--- a call that uses code is refused as escaped exactly when some cell used can't be finished
+-- a call whose arguments are lawful, and whose used cells are full, is refused as escaped exactly when some cell used can't be finished
 abbrev pub Escape-exact : Type 0
 Escape-exact = (st : State) → Grown st → (output : Sheet) (c : Call) → lawful-arguments output c ≡ true → ((i : ℕ) → In i (uses c) → Full st i) → (Escapes output st c → Unfinishable st c) × (Unfinishable st c → Escapes output st c)
 
@@ -167,7 +172,7 @@ abbrev pub granted-in-order : Limits → State → List Call → Option State
 granted-in-order l st [] = Some st
 granted-in-order l st (c ∷ cs) = elim (does l (sheet [] 0) st c) [ Ok s ↦ granted-in-order l s cs | Err f ↦ None ]
 
--- code that can be finished is finished by some further calls, and printed
+-- further calls, the limits struck out, make a program that holds c, and print it
 pub record Printed-by (st : State) (c : Code) : Type 0 where
   pub calls : List Call
   pub end : State
@@ -184,6 +189,7 @@ pub record Printed-by (st : State) (c : Code) : Type 0 where
   -- PRINT of that cell at place 0 is granted
   pub print-granted : does unlimited (sheet output 0) end (call.Print at) ≡ Ok end
 
+-- so it is in every state that calls lead to
 abbrev pub Finishing : Type 0
 Finishing = (st : State) → Grown st → (i : ℕ) (p : Piece) → cell st i ≡ Some p → Finishable st (p .code) → Printed-by st (p .code)
 

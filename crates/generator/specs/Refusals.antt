@@ -1,14 +1,13 @@
--- Which refusals apply to a call other than RUN, each in the words of its definition; and that a call is refused with the first that applies.
+-- Which refusals apply to a call, one clause for each; and that a call is refused with the first that applies.
 use Prim.Native.Nat.{ℕ, _+_, _≤_, _<_}
 use mathlib.Core.Path.{_≡_}
-use mathlib.Core.Bool.{Bool, false, cond}
+use mathlib.Core.Bool.{false, cond}
 use mathlib.Core.Logic.{_⊎_}
 use mathlib.Core.List.{List, [], _∷_, _++_}
 use lib.Dec.{eqb}
 use lib.ListN.{length}
 use Rattle.std.specs.declared.option.Option.{Option}
 use Rattle.std.specs.declared.option.Option.the-variants.{Some, None}
-use Rattle.std.specs.declared.result.Result.{Result}
 use Rattle.std.specs.declared.result.Result.the-variants.{Ok, Err}
 use Rattle.code.specs.declared.operator.Operator.{Operator}
 use Rattle.code.specs.declared.types.Base.{Base}
@@ -46,14 +45,16 @@ abbrev pub names-in : Option Piece → List ℕ
 names-in None = []
 names-in (Some p) = p .names
 
--- of some cells, in argument order, the first whose code has names that are not open, and their number
+-- cell i, which holds o, where its code has names that are not open, and their number; else the rest
 abbrev pub escape-at : State → Option Piece → ℕ → Option (ℕ × ℕ) → Option (ℕ × ℕ)
 escape-at st o i rest = cond (eqb (length (escaping (st .open-binders) (names-in o))) 0) rest (Some (i, length (escaping (st .open-binders) (names-in o))))
 
+-- of some cells, in argument order, the first whose code has names that are not open, and their number
 abbrev pub first-escape : State → List ℕ → Option (ℕ × ℕ)
 first-escape st [] = None
 first-escape st (i ∷ is) = escape-at st (cell st i) i (first-escape st is)
 
+-- the refusals that apply to a call, with their numbers
 pub data Applies (page : Sheet) (st : State) : Call → Fault → Type 0 where
   -- 1: a cell over 15, an operator over 6, an input over 7, a parameter type or truth over 1, a place beyond the output
   bad : {c : Call} → lawful-arguments page c ≡ false → Applies page st c (plain Model.bad-argument)
@@ -114,6 +115,7 @@ pub record Store-refused (page : Sheet) (st : State) (c : Call) (fate : Fate) (f
 abbrev pub Store-last : Type 0
 Store-last = (page : Sheet) (st : State) (c : Call) (fate : Fate) (f : Fault) → Store-refused page st c fate f
 
+-- the first refusal of the generator, or else that of the store
 pub record Refusals-in-order : Type 0 where
   pub first-refusal : First-refusal
   pub store-last : Store-last
