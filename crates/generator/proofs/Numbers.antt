@@ -20,8 +20,8 @@ use Rattle.code.specs.Code
 use Rattle.generator.specs.Model.{State, bad-argument, judge, leaf}
 use Rattle.generator.specs.Calls.{num-plan}
 
--- a number below a bound that all of a list have stands for one of them, and no other does
 module _ {A : Type 0} where
+  -- what a number stands for has that number
   told : (number : A → ℕ) (xs : List A) (n : ℕ) (x : A) → with-number number xs n ≡ Some x → number x ≡ n
   told number [] n x e = absurd (let z : _≡_ {A = ℕ} 0 1 = cc in omega arith)
   told number (y ∷ ys) n x e =
@@ -29,6 +29,7 @@ module _ {A : Type 0} where
       (λ q f. let p : y ≡ x = cc in subst (λ (z : A). number z ≡ n) p (eqb-true (number y) n q))
       (λ _ f. told number ys n x f)) e
 
+  -- where each number below k stands for something, one that stands for nothing is not below it
   none-from : (o : Option A) (n k : ℕ) → (n < k → (x : A) × (o ≡ Some x)) → o ≡ None → ltb n k ≡ false
   none-from o n k some e = go (ltb n k) refl
     where
