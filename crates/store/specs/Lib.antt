@@ -1,4 +1,5 @@
 pub mod Meaning
+pub mod Spending
 pub mod Search
 pub mod Ledger
 pub mod Memory
