@@ -4,3 +4,4 @@ pub mod Search
 pub mod Ledger
 pub mod Memory
 pub mod Sharing
+pub mod Sequence
