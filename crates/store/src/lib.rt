@@ -6,3 +6,5 @@ pub mod row;
 pub mod search;
 pub mod sequence;
 pub mod sharing;
+#[cfg(test)]
+mod tests;
