@@ -4,3 +4,4 @@ pub mod Sizes
 pub mod Makes
 pub mod Memories
 pub mod Shares
+pub mod Sequences

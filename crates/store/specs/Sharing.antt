@@ -7,15 +7,23 @@ use Rattle.std.specs.declared.result.Result.{Result}
 use Rattle.std.specs.declared.result.Result.the-variants.{Ok, Err}
 use Rattle.code.specs.declared.construct.Handle.{Handle}
 use Rattle.code.specs.declared.construct.Construct.{Construct}
+use Rattle.code.specs.Code.{Code}
 use Rattle.store.specs.declared.meaning.StoreFault.{StoreFault}
 use Rattle.store.specs.declared.memory.Memory.{Memory}
 use Rattle.store.specs.declared.sharing.Sharing.{Sharing}
+use Rattle.store.specs.Meaning.{Codes}
 use Rattle.store.specs.Memory.{blank, Asked, Noted, Empty-memory}
 
 -- a new layer is over the store as given, with nothing remembered
 pub record Fresh-layer {S : Type 0} (given : S) (s : Sharing S) : Type 0 where
   pub below : s .below ≡ given
   pub memory : Empty-memory (s .memory)
+
+-- a layer is a store with the codes, the units and the prices of the one below
+pub record Like-below (given layer : Codes) (had has : ℕ) (price priced : Code → ℕ) : Type 0 where
+  pub codes : (h : Handle) → layer h ≡ given h
+  pub units : has ≡ had
+  pub prices : (c : Code) → priced c ≡ price c
 
 -- some entry has the request
 pub record Holds (m : Memory) (x : Construct) : Type 0 where

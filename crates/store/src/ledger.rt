@@ -2,6 +2,8 @@
 ghost use mathlib.Core.Path.{_≡_};
 ghost use Prim.Native.Nat.{ℕ, _<_, _≤_};
 ghost use lib.ListN.{length};
+ghost use Rattle.store.specs.Meaning.{Made};
+ghost use Rattle.store.specs.Spending.{Spends};
 ghost use Rattle.store.specs.Ledger.{Sound, code-of, units-left, one-each, asked-size, size-of-row, plus1, plus2, plus3, Fresh};
 use crate::meaning::Store;
 use crate::meaning::StoreFault;
@@ -90,7 +92,13 @@ pub impl<'a> Store for Ledger<'a> as LedgerStore {
 
     ghost price = { one-each };
 
-    fn make(&mut self, construct: Construct) -> Result<Handle, StoreFault> {
+    // The next row takes the construct, and costs one unit whatever its code.
+    fn make(&mut self, construct: Construct) -> Result<Handle, StoreFault>
+        requires { ⌜ Sound (now self) ⌝ }
+        ensures stays { λ _. ⌜ Sound (now (self .exit)) ⌝ }
+        ensures made { λ r. ⌜ Made (code-of (now (self .entry))) (code-of (now (self .exit))) (units-left (now (self .entry))) (units-left (now (self .exit))) (one-each (now (self .entry))) (one-each (now (self .exit))) construct r ⌝ }
+        ensures spends { λ r. ⌜ Spends (code-of (now (self .entry))) (units-left (now (self .entry))) (units-left (now (self .exit))) (one-each (now (self .entry))) construct r ⌝ }
+    {
         let Some(size) = self.size_asked(construct) else {
             return Err(StoreFault::BadArgument);
         };

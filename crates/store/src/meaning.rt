@@ -11,7 +11,7 @@ use code::construct::Handle;
 use code::refusal::Refusal;
 
 // Why a store made nothing.
-#[derive(Clone, Copy, Debug)]
+#[derive(Clone, Copy, PartialEq, Eq, Debug)]
 pub enum StoreFault {
     // an unknown handle, or a number outside its range
     BadArgument,

@@ -2,7 +2,7 @@
 ghost use mathlib.Core.Path.{_≡_};
 ghost use Prim.Native.Nat.{ℕ, _<_, _≤_};
 ghost use Rattle.store.specs.Meaning.{Made};
-ghost use Rattle.store.specs.Sharing.{Fresh-layer, Shares};
+ghost use Rattle.store.specs.Sharing.{Fresh-layer, Like-below, Shares};
 ghost use Rattle.store.specs.Memory.{Asked, same-request, In-order, Noted, Remembers, Empty-memory};
 use crate::meaning::Store;
 use crate::meaning::StoreFault;
@@ -71,6 +71,7 @@ impl<S: Store> Sharing<S> {
     // The layer over a store, with nothing remembered.
     pub fn new(below: S) -> Sharing<S>
         ensures fresh { λ r. ⌜ Fresh-layer below r ⌝ }
+        ensures alike { λ r. ⌜ Like-below (S·Store .code below) (S·Store .code (r .below)) (S·Store .units below) (S·Store .units (r .below)) (S·Store .price below) (S·Store .price (r .below)) ⌝ }
         ensures valid { λ r. ⌜ (S·Store .valid below → S·Store .valid (r .below) × Remembers (S·Store .code (r .below)) (r .memory)) ⌝ }
     {
         let memory = Memory::new();
