@@ -1,4 +1,4 @@
--- What a search answers: the first place of an entry the same as the wanted one, or that there is none.
+-- What is answered where an entry is looked for: the first place of one the same as the wanted one, or that there is none.
 use Prim.Native.Nat.{ℕ, _<_}
 use mathlib.Core.List.{List}
 use lib.ListN.{length, getD}
