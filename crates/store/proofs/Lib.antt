@@ -4,3 +4,8 @@ pub mod Sizes
 pub mod Makes
 pub mod Memories
 pub mod Shares
+pub mod Packs
+pub mod Tapes
+pub mod Copies
+pub mod Sizings
+pub mod Lays

@@ -3,3 +3,7 @@ pub mod Search
 pub mod Ledger
 pub mod Memory
 pub mod Sharing
+pub mod Words
+pub mod Sizing
+pub mod Spending
+pub mod Tape
