@@ -99,14 +99,14 @@ pub impl<'a> Store for Tape<'a> as TapeStore {
         }
         let at = self.used;
         let wanted = size as usize;
-        let free = self.words.len().min(MOST_WORDS) - at;
+        let free = self.free();
         if wanted > free {
             return Err(StoreFault::NoRoom { wanted, free });
         }
         lay_parts(self.words, at + 1, construct);
         self.words[at] = pack(Head::of(construct), size as u16);
         self.used = at + wanted;
-        Ok(Handle { number: at as u32 })
+        Ok(handle_of(at))
     }
 
     fn look(&self, handle: Handle) -> Option<Construct> {
