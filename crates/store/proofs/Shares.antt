@@ -20,7 +20,7 @@ use Rattle.store.specs.declared.memory.Remembered.{Remembered}
 use Rattle.store.specs.declared.memory.Memory.{Memory}
 use Rattle.store.specs.declared.sharing.Sharing.{Sharing}
 use Rattle.store.specs.Meaning.{Codes, wanted, Answered, Made}
-use Rattle.store.specs.Memory.{blank, Asked, Noted, Remembers}
+use Rattle.store.specs.Memory.{blank, Asked, In-order, Noted, Once, Remembers}
 use Rattle.store.specs.Sharing.{Holds, Shares}
 use Rattle.store.proofs.Meanings.{Knows-more, wanted-more}
 
@@ -30,26 +30,48 @@ remembers-more f g m more v =
     record {
       order = v .order;
       meant = λ k lt. let e = v .meant k lt in (e .0, wanted-more f g (getD (m .entries) k blank .request) (e .0) more (e .1), more (getD (m .entries) k blank .handle) (e .0) (e .2));
+      once = v .once;
     }
 
-remembers-note : (f : Codes) (m n : Memory) (x : Construct) (h : Handle) (c : Code) → Remembers f m → Noted m x h n → wanted f x ≡ Ok c → f h ≡ Some c → Remembers f n
-remembers-note f m n x h c v a w is = record { order = a .order; meant = λ k lt. by k lt (cases-eq k (m .next)) }
+-- an entry that was not noted just now was there before
+older : (m n : Memory) (x : Construct) (h : Handle) → In-order m → Noted m x h n → (k : ℕ) → k < n .count → (k ≡ m .next → ⊥) → k < m .count
+older m n x h v a k lt other = by (cases-lt (m .count) 64)
   where
-    older : (k : ℕ) → k < n .count → (k ≡ m .next → ⊥) → (m .count < 64) ⊎ (64 ≤ m .count) → k < m .count
-    older k lt other (inl l) = by-order (cases-lt k (m .count))
-      where
-        by-order : (k < m .count) ⊎ (m .count ≤ k) → k < m .count
-        by-order (inl p) = p
-        by-order (inr p) = absurd (other (omega (arith, a .count, v .order .filling l)))
-    older k lt other (inr l) = omega (arith, a .count)
+    by-order : m .count < 64 → (k < m .count) ⊎ (m .count ≤ k) → k < m .count
+    by-order l (inl p) = p
+    by-order l (inr p) = absurd (other (omega (arith, a .count, v .filling l)))
 
+    by : (m .count < 64) ⊎ (64 ≤ m .count) → k < m .count
+    by (inl l) = by-order l (cases-lt k (m .count))
+    by (inr l) = omega (arith, a .count)
+
+-- a request that was not remembered is remembered once
+once-note : (m n : Memory) (x : Construct) (h : Handle) → In-order m → Once m → Asked m x None → Noted m x h n → Once n
+once-note m n x h v once none a j k lj lk e = by (cases-eq j (m .next)) (cases-eq k (m .next))
+  where
+    new : (i : ℕ) → i ≡ m .next → getD (n .entries) i blank .request ≡ x
+    new i is = ap (λ (y : Remembered). y .request) (ap (λ (l : ℕ). getD (n .entries) l blank) is ∙ a .newest)
+
+    old : (i : ℕ) → (i ≡ m .next → ⊥) → getD (n .entries) i blank .request ≡ getD (m .entries) i blank .request
+    old i other = ap (λ (y : Remembered). y .request) (a .others i other)
+
+    by : (j ≡ m .next) ⊎ (j ≡ m .next → ⊥) → (k ≡ m .next) ⊎ (k ≡ m .next → ⊥) → j ≡ k
+    by (inl p) (inl q) = p ∙ sym q
+    by (inl p) (inr q) = absurd (none k (older m n x h v a k lk q) (sym (old k q) ∙ sym e ∙ new j p))
+    by (inr p) (inl q) = absurd (none j (older m n x h v a j lj p) (sym (old j p) ∙ e ∙ new k q))
+    by (inr p) (inr q) = once j k (older m n x h v a j lj p) (older m n x h v a k lk q) (sym (old j p) ∙ e ∙ old k q)
+
+remembers-note : (f : Codes) (m n : Memory) (x : Construct) (h : Handle) (c : Code) → Remembers f m → Asked m x None → Noted m x h n → wanted f x ≡ Ok c → f h ≡ Some c → Remembers f n
+remembers-note f m n x h c v none a w is =
+    record { order = a .order; meant = λ k lt. by k lt (cases-eq k (m .next)); once = once-note m n x h (v .order) (v .once) none a }
+  where
     by : (k : ℕ) → k < n .count → (k ≡ m .next) ⊎ (k ≡ m .next → ⊥) → (d : Code) × (wanted f (getD (n .entries) k blank .request) ≡ Ok d) × (f (getD (n .entries) k blank .handle) ≡ Some d)
     by k lt (inl e) =
         let q : getD (n .entries) k blank ≡ record { request = x; handle = h } = ap (λ (j : ℕ). getD (n .entries) j blank) e ∙ a .newest in
         (c, ap (λ (y : Remembered). wanted f (y .request)) q ∙ w, ap (λ (y : Remembered). f (y .handle)) q ∙ is)
     by k lt (inr other) =
         let q = a .others k other in
-        let e = v .meant k (older k lt other (cases-lt (m .count) 64)) in
+        let e = v .meant k (older m n x h (v .order) a k lt other) in
         (e .0, ap (λ (y : Remembered). wanted f (y .request)) q ∙ e .1, ap (λ (y : Remembered). f (y .handle)) q ∙ e .2)
 
 -- a remembered handle answers the request
@@ -61,12 +83,12 @@ shared-found f m n price x h v found =
     record { kept = λ k c i. i; prices = λ c. refl; ends = rw some (is, omega arith, omega arith) }
 
 -- the store below granted the request, and it is noted
-pub shared-made : (f g : Codes) (m n : Memory) (had has : ℕ) (price priced : Code → ℕ) (x : Construct) (h : Handle) → Remembers f m → Made f g had has price priced x (Ok h) → Noted m x h n → Remembers g n
-shared-made f g m n had has price priced x h v made a = by (wanted f x) refl (made .ends)
+pub shared-made : (f g : Codes) (m n : Memory) (had has : ℕ) (price priced : Code → ℕ) (x : Construct) (h : Handle) → Remembers f m → Asked m x None → Made f g had has price priced x (Ok h) → Noted m x h n → Remembers g n
+shared-made f g m n had has price priced x h v none made a = by (wanted f x) refl (made .ends)
   where
     by : (w : Result Code StoreFault) → wanted f x ≡ w → Answered f g had has price w (Ok h) → Remembers g n
-    by (Err e) is none = absurd none
-    by (Ok c) is ends = remembers-note g m n x h c (remembers-more f g m (made .kept) v) a (wanted-more f g x c (made .kept) is) (ends .0)
+    by (Err e) is ends = absurd ends
+    by (Ok c) is ends = remembers-note g m n x h c (remembers-more f g m (made .kept) v) none a (wanted-more f g x c (made .kept) is) (ends .0)
 
 -- no entry holds what is not found
 pub unheld : (m : Memory) (x : Construct) → Asked m x None → Holds m x → ⊥

@@ -60,7 +60,12 @@ pub record Empty-memory (m : Memory) : Type 0 where
   pub next : m .next ≡ 0
   pub empty : remembered m ≡ []
 
--- each entry's handle stands for what its request asks for
+-- no two entries have the same request
+abbrev pub Once : Memory → Type 0
+Once m = (j k : ℕ) → j < m .count → k < m .count → getD (m .entries) j blank .request ≡ getD (m .entries) k blank .request → j ≡ k
+
+-- each entry's handle stands for what its request asks for, and no request is remembered twice
 pub record Remembers (code : Codes) (m : Memory) : Type 0 where
   pub order : In-order m
   pub meant : (k : ℕ) → k < m .count → (c : Code) × (wanted code (getD (m .entries) k blank .request) ≡ Ok c) × (code (getD (m .entries) k blank .handle) ≡ Some c)
+  pub once : Once m

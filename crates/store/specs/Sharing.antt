@@ -36,7 +36,7 @@ abbrev pub Learnt : Memory → Construct → Result Handle StoreFault → Memory
 Learnt m x (Ok h) n = Noted m x h n
 Learnt m x (Err f) n = n ≡ m
 
--- a remembered request is answered by a remembered handle, and nothing changes, below neither
+-- a remembered request is answered by the handle remembered with it, and nothing changes, below neither
 pub record Hit {S : Type 0} (s : Sharing S) (x : Construct) (r : Result Handle StoreFault) (t : Sharing S) : Type 0 where
   pub same : t ≡ s
   pub handle : Handle

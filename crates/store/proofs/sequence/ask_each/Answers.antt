@@ -13,7 +13,7 @@ loop-at-again g c =
     let e = c .ask .ensures in
     let inv = c .loop-at .inv in (
       e .stays,
-      asked-next _ _ _ (c .args .requests .now) (c .loop-at .answers) (c .loop-at .at) (c .ask .result) (omega arith) (omega arith) (inv .1) (e .told),
+      asked-next _ _ (record { codes = g .S·Store .code (c .ask .last .store); units = g .S·Store .units (c .ask .last .store); prices = g .S·Store .price (c .ask .last .store) }) (c .args .requests .now) (c .loop-at .answers) (c .loop-at .at) (c .ask .result) (omega arith) (omega arith) (inv .1) (e .told),
       rest-next (c .loop-at .answers) (c .args .answers .now) (c .loop-at .at) (c .ask .result) (inv .2),
     )
 

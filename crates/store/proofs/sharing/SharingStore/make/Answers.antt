@@ -31,7 +31,7 @@ returns g c =
     let memory = c .note .last .self in
     let kept =
     shared-made (store .code (s .below)) (store .code below) (s .memory) memory (store .units (s .below)) (store .units below) (store .price (s .below)) (store .price below)
-    (c .args .construct) (c .in-Continue-handle .handle) (c .pre .1) (e .made) (c .note .ensures) in
+    (c .args .construct) (c .in-Continue-handle .handle) (c .pre .1) (c .in-rest .ensures tt) (e .made) (c .note .ensures) in
     record {
       stays = (e .stays, kept);
       made = e .made;
