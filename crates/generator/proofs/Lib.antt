@@ -10,3 +10,6 @@ pub mod Finishers
 pub mod Prints
 pub mod Exacts
 pub mod Firsts
+pub mod Opens
+pub mod Judging
+pub mod Directs

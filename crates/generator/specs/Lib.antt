@@ -1,9 +1,11 @@
 pub mod Faults
 pub mod Binders
-pub mod Reading
 pub mod Plans
 pub mod Model
 pub mod Calls
+pub mod Reads
+pub mod Reading
 pub mod Finish
 pub mod Refusals
 pub mod Exact
+pub mod Standing

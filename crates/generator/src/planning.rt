@@ -1,4 +1,11 @@
 // The plans of the calls that leave the binders as they are.
+ghost use mathlib.Core.Path.{_≡_};
+ghost use lib.Dec.{leb};
+ghost use Rattle.std.specs.declared.result.Result.the-variants.{Ok};
+ghost use Rattle.store.specs.Meaning.{Codes};
+ghost use Rattle.generator.specs.Model.{stated, join-plan, judge, too-large};
+ghost use Rattle.generator.specs.Reads.{read, read-result};
+ghost use Rattle.generator.specs.Standing.{Stands, planned};
 ghost use Rattle.generator.specs.Plans.{Keeping};
 use crate::fault::GeneratorFault;
 use crate::plan::Plan;
@@ -13,7 +20,9 @@ use code::types::Base;
 use code::types::Ty;
 
 // The size, where it is not too large.
-pub(crate) fn judge_size(size: u32) -> Result<u16, GeneratorFault> {
+pub(crate) fn judge_size(size: u32) -> Result<u16, GeneratorFault>
+    ensures { λ r. ⌜ read-result (λ z. z) r ≡ judge (leb size 4096) too-large (Ok size) ⌝ }
+{
     if size > LARGEST {
         return Err(GeneratorFault::TooLarge);
     }
@@ -61,7 +70,8 @@ impl Table {
         left: u8,
         right: u8,
     ) -> Result<Plan, GeneratorFault>
-        ensures { λ r. ⌜ Keeping r ⌝ }
+        ensures keeps { λ r. ⌜ Keeping r ⌝ }
+        ensures plans { λ r. ⌜ ((code : Codes) → Stands code (now (self .entry)) → read-result (planned code (now (self .entry))) r ≡ join-plan stated (read code (now (self .entry))) cell operator left right) ⌝ }
     {
         let to = slot(cell)?;
         let operator = Operator::from_number(operator).ok_or(GeneratorFault::BadArgument)?;

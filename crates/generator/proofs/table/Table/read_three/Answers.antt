@@ -1,0 +1,96 @@
+use mathlib.Core.Path.{_≡_, refl, sym, ap, _∙_}
+use Rattle.std.proofs.shelf.Results.{err-from-errBy}
+use Rattle.std.specs.declared.result.Result.the-variants.{Ok, Err}
+use Rattle.generator.specs.Reads.{read, read-piece, read-result, read-fault}
+use Rattle.generator.specs.Reading.{slot-of, held-in, may-use, used-three, read-triple}
+use Rattle.generator.proofs.Judging.{held-read}
+use Rattle.generator.proofs.table.Table.read_three.Needs as need
+
+pub returns-in-Break-x : need.returns-in-Break-x
+returns-in-Break-x c code =
+    let t = c .args .self .now in
+    let p = err-from-errBy (c .from-residual-in-Break-x .result) (c .from-residual-in-Break-x .ensures .1) in
+    let slot-a : Ok (c .in-Continue-a .a) ≡ slot-of (c .args .first) = c .in-Continue-a .ensures tt .0 in
+    let slot-b : Ok (c .in-Continue-b .b) ≡ slot-of (c .args .second) = c .in-Continue-b .ensures tt .0 in
+    let slot-d : Ok (c .in-Continue-d .d) ≡ slot-of (c .args .third) = c .in-Continue-d .ensures tt .0 in
+    let none : Err (read-fault (c .in-Break-x .field-0 .0)) ≡ held-in (read code t) (c .in-Continue-a .a) = held-read code t (c .in-Continue-a .a) (Err (c .in-Break-x .field-0 .0)) (c .in-Break-x .ensures tt) in
+    ap (read-result (read-triple code)) (p .1 ∙ ap Err (p .2)) ∙ rw (← slot-a, ← slot-b, ← slot-d, ← none) refl
+
+pub returns-in-Break-y : need.returns-in-Break-y
+returns-in-Break-y c code =
+    let t = c .args .self .now in
+    let p = err-from-errBy (c .from-residual-in-Break-y .result) (c .from-residual-in-Break-y .ensures .1) in
+    let slot-a : Ok (c .in-Continue-a .a) ≡ slot-of (c .args .first) = c .in-Continue-a .ensures tt .0 in
+    let slot-b : Ok (c .in-Continue-b .b) ≡ slot-of (c .args .second) = c .in-Continue-b .ensures tt .0 in
+    let slot-d : Ok (c .in-Continue-d .d) ≡ slot-of (c .args .third) = c .in-Continue-d .ensures tt .0 in
+    let cell-a : Ok (read-piece code (c .in-Continue-x .x)) ≡ held-in (read code t) (c .in-Continue-a .a) = held-read code t (c .in-Continue-a .a) (Ok (c .in-Continue-x .x)) (c .in-Continue-x .ensures tt) in
+    let none : Err (read-fault (c .in-Break-y .field-0 .0)) ≡ held-in (read code t) (c .in-Continue-b .b) = held-read code t (c .in-Continue-b .b) (Err (c .in-Break-y .field-0 .0)) (c .in-Break-y .ensures tt) in
+    ap (read-result (read-triple code)) (p .1 ∙ ap Err (p .2)) ∙ rw (← slot-a, ← slot-b, ← slot-d, ← cell-a, ← none) refl
+
+pub returns-in-Break-z : need.returns-in-Break-z
+returns-in-Break-z c code =
+    let t = c .args .self .now in
+    let p = err-from-errBy (c .from-residual-in-Break-z .result) (c .from-residual-in-Break-z .ensures .1) in
+    let slot-a : Ok (c .in-Continue-a .a) ≡ slot-of (c .args .first) = c .in-Continue-a .ensures tt .0 in
+    let slot-b : Ok (c .in-Continue-b .b) ≡ slot-of (c .args .second) = c .in-Continue-b .ensures tt .0 in
+    let slot-d : Ok (c .in-Continue-d .d) ≡ slot-of (c .args .third) = c .in-Continue-d .ensures tt .0 in
+    let cell-a : Ok (read-piece code (c .in-Continue-x .x)) ≡ held-in (read code t) (c .in-Continue-a .a) = held-read code t (c .in-Continue-a .a) (Ok (c .in-Continue-x .x)) (c .in-Continue-x .ensures tt) in
+    let cell-b : Ok (read-piece code (c .in-Continue-y .y)) ≡ held-in (read code t) (c .in-Continue-b .b) = held-read code t (c .in-Continue-b .b) (Ok (c .in-Continue-y .y)) (c .in-Continue-y .ensures tt) in
+    let none : Err (read-fault (c .in-Break-z .field-0 .0)) ≡ held-in (read code t) (c .in-Continue-d .d) = held-read code t (c .in-Continue-d .d) (Err (c .in-Break-z .field-0 .0)) (c .in-Break-z .ensures tt) in
+    ap (read-result (read-triple code)) (p .1 ∙ ap Err (p .2)) ∙ rw (← slot-a, ← slot-b, ← slot-d, ← cell-a, ← cell-b, ← none) refl
+
+pub returns-in-Break-judge-use : need.returns-in-Break-judge-use
+returns-in-Break-judge-use c code =
+    let t = c .args .self .now in
+    let p = err-from-errBy (c .from-residual-in-Break-judge-use .result) (c .from-residual-in-Break-judge-use .ensures .1) in
+    let slot-a : Ok (c .in-Continue-a .a) ≡ slot-of (c .args .first) = c .in-Continue-a .ensures tt .0 in
+    let slot-b : Ok (c .in-Continue-b .b) ≡ slot-of (c .args .second) = c .in-Continue-b .ensures tt .0 in
+    let slot-d : Ok (c .in-Continue-d .d) ≡ slot-of (c .args .third) = c .in-Continue-d .ensures tt .0 in
+    let cell-a : Ok (read-piece code (c .in-Continue-x .x)) ≡ held-in (read code t) (c .in-Continue-a .a) = held-read code t (c .in-Continue-a .a) (Ok (c .in-Continue-x .x)) (c .in-Continue-x .ensures tt) in
+    let cell-b : Ok (read-piece code (c .in-Continue-y .y)) ≡ held-in (read code t) (c .in-Continue-b .b) = held-read code t (c .in-Continue-b .b) (Ok (c .in-Continue-y .y)) (c .in-Continue-y .ensures tt) in
+    let cell-d : Ok (read-piece code (c .in-Continue-z .z)) ≡ held-in (read code t) (c .in-Continue-d .d) = held-read code t (c .in-Continue-d .d) (Ok (c .in-Continue-z .z)) (c .in-Continue-z .ensures tt) in
+    let escapes : Err (read-fault (c .in-Break-judge-use .field-0 .0)) ≡ may-use (read code t) (c .in-Continue-a .a) (read-piece code (c .in-Continue-x .x)) = c .in-Break-judge-use .ensures tt code in
+    ap (read-result (read-triple code)) (p .1 ∙ ap Err (p .2)) ∙ rw (← slot-a, ← slot-b, ← slot-d, ← cell-a, ← cell-b, ← cell-d, ← escapes) refl
+
+pub returns-in-Break-judge-use-2 : need.returns-in-Break-judge-use-2
+returns-in-Break-judge-use-2 c code =
+    let t = c .args .self .now in
+    let p = err-from-errBy (c .from-residual-in-Break-judge-use-2 .result) (c .from-residual-in-Break-judge-use-2 .ensures .1) in
+    let slot-a : Ok (c .in-Continue-a .a) ≡ slot-of (c .args .first) = c .in-Continue-a .ensures tt .0 in
+    let slot-b : Ok (c .in-Continue-b .b) ≡ slot-of (c .args .second) = c .in-Continue-b .ensures tt .0 in
+    let slot-d : Ok (c .in-Continue-d .d) ≡ slot-of (c .args .third) = c .in-Continue-d .ensures tt .0 in
+    let cell-a : Ok (read-piece code (c .in-Continue-x .x)) ≡ held-in (read code t) (c .in-Continue-a .a) = held-read code t (c .in-Continue-a .a) (Ok (c .in-Continue-x .x)) (c .in-Continue-x .ensures tt) in
+    let cell-b : Ok (read-piece code (c .in-Continue-y .y)) ≡ held-in (read code t) (c .in-Continue-b .b) = held-read code t (c .in-Continue-b .b) (Ok (c .in-Continue-y .y)) (c .in-Continue-y .ensures tt) in
+    let cell-d : Ok (read-piece code (c .in-Continue-z .z)) ≡ held-in (read code t) (c .in-Continue-d .d) = held-read code t (c .in-Continue-d .d) (Ok (c .in-Continue-z .z)) (c .in-Continue-z .ensures tt) in
+    let use-a : Ok tt ≡ may-use (read code t) (c .in-Continue-a .a) (read-piece code (c .in-Continue-x .x)) = c .in-Continue-judge-use .ensures tt code in
+    let escapes : Err (read-fault (c .in-Break-judge-use-2 .field-0 .0)) ≡ may-use (read code t) (c .in-Continue-b .b) (read-piece code (c .in-Continue-y .y)) = c .in-Break-judge-use-2 .ensures tt code in
+    ap (read-result (read-triple code)) (p .1 ∙ ap Err (p .2)) ∙ rw (← slot-a, ← slot-b, ← slot-d, ← cell-a, ← cell-b, ← cell-d, ← use-a, ← escapes) refl
+
+pub returns-in-Break-judge-use-3 : need.returns-in-Break-judge-use-3
+returns-in-Break-judge-use-3 c code =
+    let t = c .args .self .now in
+    let p = err-from-errBy (c .from-residual-in-Break-judge-use-3 .result) (c .from-residual-in-Break-judge-use-3 .ensures .1) in
+    let slot-a : Ok (c .in-Continue-a .a) ≡ slot-of (c .args .first) = c .in-Continue-a .ensures tt .0 in
+    let slot-b : Ok (c .in-Continue-b .b) ≡ slot-of (c .args .second) = c .in-Continue-b .ensures tt .0 in
+    let slot-d : Ok (c .in-Continue-d .d) ≡ slot-of (c .args .third) = c .in-Continue-d .ensures tt .0 in
+    let cell-a : Ok (read-piece code (c .in-Continue-x .x)) ≡ held-in (read code t) (c .in-Continue-a .a) = held-read code t (c .in-Continue-a .a) (Ok (c .in-Continue-x .x)) (c .in-Continue-x .ensures tt) in
+    let cell-b : Ok (read-piece code (c .in-Continue-y .y)) ≡ held-in (read code t) (c .in-Continue-b .b) = held-read code t (c .in-Continue-b .b) (Ok (c .in-Continue-y .y)) (c .in-Continue-y .ensures tt) in
+    let cell-d : Ok (read-piece code (c .in-Continue-z .z)) ≡ held-in (read code t) (c .in-Continue-d .d) = held-read code t (c .in-Continue-d .d) (Ok (c .in-Continue-z .z)) (c .in-Continue-z .ensures tt) in
+    let use-a : Ok tt ≡ may-use (read code t) (c .in-Continue-a .a) (read-piece code (c .in-Continue-x .x)) = c .in-Continue-judge-use .ensures tt code in
+    let use-b : Ok tt ≡ may-use (read code t) (c .in-Continue-b .b) (read-piece code (c .in-Continue-y .y)) = c .in-Continue-judge-use-2 .ensures tt code in
+    let escapes : Err (read-fault (c .in-Break-judge-use-3 .field-0 .0)) ≡ may-use (read code t) (c .in-Continue-d .d) (read-piece code (c .in-Continue-z .z)) = c .in-Break-judge-use-3 .ensures tt code in
+    ap (read-result (read-triple code)) (p .1 ∙ ap Err (p .2)) ∙ rw (← slot-a, ← slot-b, ← slot-d, ← cell-a, ← cell-b, ← cell-d, ← use-a, ← use-b, ← escapes) refl
+
+pub returns : need.returns
+returns c code =
+    let t = c .args .self .now in
+    let slot-a : Ok (c .in-Continue-a .a) ≡ slot-of (c .args .first) = c .in-Continue-a .ensures tt .0 in
+    let slot-b : Ok (c .in-Continue-b .b) ≡ slot-of (c .args .second) = c .in-Continue-b .ensures tt .0 in
+    let slot-d : Ok (c .in-Continue-d .d) ≡ slot-of (c .args .third) = c .in-Continue-d .ensures tt .0 in
+    let cell-a : Ok (read-piece code (c .in-Continue-x .x)) ≡ held-in (read code t) (c .in-Continue-a .a) = held-read code t (c .in-Continue-a .a) (Ok (c .in-Continue-x .x)) (c .in-Continue-x .ensures tt) in
+    let cell-b : Ok (read-piece code (c .in-Continue-y .y)) ≡ held-in (read code t) (c .in-Continue-b .b) = held-read code t (c .in-Continue-b .b) (Ok (c .in-Continue-y .y)) (c .in-Continue-y .ensures tt) in
+    let cell-d : Ok (read-piece code (c .in-Continue-z .z)) ≡ held-in (read code t) (c .in-Continue-d .d) = held-read code t (c .in-Continue-d .d) (Ok (c .in-Continue-z .z)) (c .in-Continue-z .ensures tt) in
+    let use-a : Ok tt ≡ may-use (read code t) (c .in-Continue-a .a) (read-piece code (c .in-Continue-x .x)) = c .in-Continue-judge-use .ensures tt code in
+    let use-b : Ok tt ≡ may-use (read code t) (c .in-Continue-b .b) (read-piece code (c .in-Continue-y .y)) = c .in-Continue-judge-use-2 .ensures tt code in
+    let use-d : Ok tt ≡ may-use (read code t) (c .in-Continue-d .d) (read-piece code (c .in-Continue-z .z)) = c .in-Continue-judge-use-3 .ensures tt code in
+    rw (← slot-a, ← slot-b, ← slot-d, ← cell-a, ← cell-b, ← cell-d, ← use-a, ← use-b, ← use-d) refl
