@@ -1,4 +1,6 @@
-// The vocabulary of generated code: operators, types, constructs over handles, and the laws of what they mean.
+//! The vocabulary of generated code: operators, types, constructs over handles, and the laws of what they mean.
+#![tactic(auto)]
+
 pub mod construct;
 pub mod laws;
 pub mod merging;

@@ -1,4 +1,6 @@
-// The generator: cells, open binders and marks over any store of code, and the printer.
+//! The generator: cells, open binders and marks over any store of code, and the printer.
+#![tactic(auto)]
+
 pub mod answer;
 pub mod binder;
 pub mod binding;

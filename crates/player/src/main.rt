@@ -1,4 +1,6 @@
-// The player: a script from standard input, the printed programs and the report line to standard output.
+//! The player: a script from standard input, the printed programs and the report line to standard output.
+#![tactic(auto)]
+
 use anyhow::anyhow;
 use generator::generator::Generator;
 use script::playing::{RunAnswer, play};

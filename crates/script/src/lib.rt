@@ -1,4 +1,6 @@
-// Scripts: the steps that their bytes spell.
+//! Scripts: the steps that their bytes spell.
+#![tactic(auto)]
+
 pub mod cursor;
 pub mod fault;
 mod kind;

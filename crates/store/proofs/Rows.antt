@@ -7,6 +7,7 @@ use Rattle.code.specs.Code.{Code}
 use Rattle.store.specs.declared.row.Row.{Row}
 use Rattle.store.specs.Meaning.{meant}
 use Rattle.store.specs.Ledger.{at, onto, rows_code}
+use Rattle.store.specs.LedgerLaw.{length-onto, code_past, known_within}
 use Rattle.store.proofs.Meanings.{KnowsMore, meant_more}
 
 onto_push : (cs : List (Option Code)) (rows : List Row) (row : Row) → onto cs (rows ++ (row ∷ [])) ≡ onto cs rows ++ (meant (at (onto cs rows)) row.construct ∷ [])
@@ -14,41 +15,24 @@ unfolding onto
 onto_push cs [] row = refl
 onto_push cs (r ∷ rows) row = onto_push (cs ++ (meant (at cs) r.construct ∷ [])) rows row
 
-length_onto : (cs : List (Option Code)) (rows : List Row) → length (onto cs rows) ≡ length cs + length rows
-unfolding onto
-length_onto cs [] = omega arith
-length_onto cs (r ∷ rows) = length_onto (cs ++ (meant (at cs) r.construct ∷ [])) rows ∙ (omega (arith, length_push cs (meant (at cs) r.construct)))
-
 -- no row, no code
 pub code_none : (h : Handle) → rows_code [] h ≡ None
 unfolding rows_code onto
 code_none h = refl
-
--- past the rows nothing is known
-pub code_past : (rows : List Row) (h : Handle) → length rows ≤ h.number → rows_code rows h ≡ None
-unfolding rows_code
-code_past rows h le = get_or_past (onto [] rows) h.number None (omega (arith, length_onto [] rows))
 
 -- older handles stand for what they did
 pub code_older : (rows : List Row) (row : Row) (h : Handle) → h.number < length rows → rows_code (rows ++ (row ∷ [])) h ≡ rows_code rows h
 unfolding rows_code
 code_older rows row h lt =
     ap (λ (cs : List (Option Code)). at cs h) (onto_push [] rows row)
-    ∙ get_or_append_left (onto [] rows) (meant (at (onto [] rows)) row.construct ∷ []) None h.number (omega (arith, length_onto [] rows))
+    ∙ get_or_append_left (onto [] rows) (meant (at (onto [] rows)) row.construct ∷ []) None h.number (omega (arith, length-onto [] rows))
 
 -- the new handle stands for the new row
 pub code_newest : (rows : List Row) (row : Row) (h : Handle) → h.number ≡ length rows → rows_code (rows ++ (row ∷ [])) h ≡ meant (rows_code rows) row.construct
 unfolding rows_code
 code_newest rows row h is =
     ap (λ (cs : List (Option Code)). at cs h) (onto_push [] rows row)
-    ∙ get_or_push (onto [] rows) (meant (at (onto [] rows)) row.construct) None h.number (omega (arith, length_onto [] rows))
-
-pub known_within : (rows : List Row) (h : Handle) (c : Code) → rows_code rows h ≡ Some c → h.number < length rows
-known_within rows h c e = by (cases_lt h.number (length rows))
-  where
-    by : (h.number < length rows) ⊎ (length rows ≤ h.number) → h.number < length rows
-    by (inl lt) = lt
-    by (inr le) = absurd (let z : ◌≡◌ {A = Option Code} None (Some c) = sym (code_past rows h le) ∙ e in search rules)
+    ∙ get_or_push (onto [] rows) (meant (at (onto [] rows)) row.construct) None h.number (omega (arith, length-onto [] rows))
 
 pub code_kept : (rows : List Row) (row : Row) → KnowsMore (rows_code rows) (rows_code (rows ++ (row ∷ [])))
 code_kept rows row h c e = code_older rows row h (known_within rows h c e) ∙ e

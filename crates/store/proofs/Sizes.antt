@@ -13,7 +13,7 @@ use Rattle.store.specs.declared.meaning.StoreFault.{StoreFault}
 use Rattle.store.specs.declared.meaning.StoreFault.TheVariants.{BadArgument, TooLarge}
 use Rattle.store.specs.Meaning.{over1, over2, over3, meant, in_range, sized, wanted}
 use Rattle.store.specs.Ledger.{code_of, Sound, blank, size_of_row, plus1, plus2, plus3, row_size, asked_size}
-use Rattle.store.proofs.Rows.{code_past, known_within}
+use Rattle.store.specs.LedgerLaw.{code_past, known_within}
 
 abbrev pub size_of : Option Code → Option ℕ
 size_of None = None
@@ -94,10 +94,3 @@ asked_some s x n v e = by (in_range x) (meant (code_of s) x) refl refl (e ∙ as
           wants = (λ j. cond (i j) (sized (m j)) (Err BadArgument)) ∙ ap (λ (k : ℕ). cond (leb k 4096) (Ok c) (Err TooLarge)) q;
         }
     by false o i m p = absurd (search rules)
-
--- a sound ledger knows no code that is too large
-pub ledger_small : (s : Ledger) (h : Handle) (c : Code) → Sound s → code_of s h ≡ Some c → size c ≤ 4096
-ledger_small s h c v e =
-    let r = v.sound h.number (omega (arith, long_front s v, known_within (take s.used s.rows.now) h c e)) in
-    let same : r.code ≡ c = let q : ◌≡◌ {A = Option Code} (Some r.code) (Some c) = sym r.stands ∙ e in cc in
-    subst (λ (d : Code). size d ≤ 4096) same r.small

@@ -5,3 +5,4 @@ pub mod Ledger
 pub mod Memory
 pub mod Sharing
 pub mod Sequence
+pub mod LedgerLaw

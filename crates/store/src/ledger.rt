@@ -81,6 +81,8 @@ impl<'a> Ledger<'a> {
 }
 
 impl<'a> Store for Ledger<'a> {
+    ghost use Rattle.store.specs.LedgerLaw.{ledger_small};
+
     ghost valid = { Sound };
 
     ghost code = { code_of };
@@ -88,6 +90,8 @@ impl<'a> Store for Ledger<'a> {
     ghost units = { units_left };
 
     ghost price = { one_each };
+
+    ghost small = { ledger_small };
 
     // The next row takes the construct, and costs one unit whatever its code.
     fn make(&mut self, construct: Construct) -> Result<Handle, StoreFault>

@@ -1,4 +1,6 @@
-// Stores of code: their one meaning, the ledger, the sharing layer over any store, and requests in turn.
+//! Stores of code: their one meaning, the ledger, the sharing layer over any store, and requests in turn.
+#![tactic(auto)]
+
 pub mod ledger;
 pub mod meaning;
 pub mod memory;

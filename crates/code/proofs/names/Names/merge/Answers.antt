@@ -6,11 +6,11 @@ use Rattle.code.proofs.names.Names.merge.Goals as goal
 
 pub returns-then-right-b : goal.returns-then-right-b
 returns-then-right-b c up-a up-b =
-    let a = c.as-slice-a.ensures.value in
-    let b = c.as-slice-b.ensures.value in
+    let a = c.as_slice-a.ensures.value in
+    let b = c.as_slice-b.ensures.value in
     let w = c.loop-count.invariant.3 (subst (Ascending 0) (sym a) up-a) (subst (Ascending 0) (sym b) up-b) in
     counted c.loop-count.serials c.loop-count.count w.fits
-    ∙ written_few w (step_none c.as-slice-a.result.now c.as-slice-b.result.now c.loop-count.left c.loop-count.right (omega arith) (omega arith))
+    ∙ written_few w (step_none c.as_slice-a.result.now c.as_slice-b.result.now c.loop-count.left c.loop-count.right (omega arith) (omega arith))
     ∙ merged_as _ _ _ _ a b
 
 pub loop-count-preserved : goal.loop-count-preserved
@@ -23,7 +23,7 @@ loop-count-preserved c = (
 
 pub returns : goal.returns
 returns c up-a up-b =
-    let a = c.as-slice-a.ensures.value in
-    let b = c.as-slice-b.ensures.value in
+    let a = c.as_slice-a.ensures.value in
+    let b = c.as_slice-b.ensures.value in
     let w = c.loop-count.invariant.3 (subst (Ascending 0) (sym a) up-a) (subst (Ascending 0) (sym b) up-b) in
     written_full w c.loop-count-test.false ∙ merged_as _ _ _ _ a b

@@ -4,7 +4,8 @@ use Rattle.code.specs.Code.{Code}
 use Rattle.store.specs.declared.row.Row.{Row}
 use Rattle.store.specs.Meaning.{meant}
 use Rattle.store.specs.Ledger.{code_of, blank}
-use Rattle.store.proofs.Rows.{code_is, code_past}
+use Rattle.store.specs.LedgerLaw.{code_past}
+use Rattle.store.proofs.Rows.{code_is}
 use Rattle.store.proofs.Sizes.{long_front}
 use Rattle.store.proofs.ledger.LedgerStore.look.Goals as goal
 

@@ -2,7 +2,7 @@ use Rattle.std.proofs.Common.{◌≡◌, refl, arith}
 use Rattle.store.specs.Ledger.{units_left}
 use Rattle.store.proofs.Makes.{made_bad, made_large, made_full, made_pushed, spends_bad, spends_large, spends_full}
 use Rattle.store.proofs.ledger.LedgerStore.make.Goals as goal
-use Rattle.store.proofs.ledger.LedgerStore.make.Goals.{then-at-self-via-then-at-self, then-at-self-via-else-at-self+then-at-ge-MOST-ROWS}
+use Rattle.store.proofs.ledger.LedgerStore.make.Goals.{then-at-self-via-then-at-self, then-at-self-via-else-at-self+then-at-ge-MOST_ROWS}
 
 pub returns-in-default : goal.returns-in-default
 returns-in-default c = record { stays = c.requires; made = made_bad c.args.self.now c.args.construct c.requires c.in-default.ensures; spends = spends_bad c.args.self.now c.args.construct _ c.requires c.in-default.ensures }
@@ -14,10 +14,10 @@ returns-then-size-from c =
 pub returns-then-at-self : goal.returns-then-at-self
 returns-then-at-self c =
     let none : units_left c.args.self.now ≡ 0 =
-    elim c.then-at-self.branch [ then-at-self-via-then-at-self w ↦ omega arith | then-at-self-via-else-at-self+then-at-ge-MOST-ROWS w ↦ omega arith ] in
+    elim c.then-at-self.branch [ then-at-self-via-then-at-self w ↦ omega arith | then-at-self-via-else-at-self+then-at-ge-MOST_ROWS w ↦ omega arith ] in
     record { stays = c.requires; made = made_full c.args.self.now c.args.construct c.in-Some.size c.requires c.in-Some.ensures (omega arith) none; spends = spends_full c.args.self.now c.args.construct none }
 
 pub returns : goal.returns
 returns c =
-    let p = made_pushed c.args.self.now _ c.args.construct c.in-Some.size _ c.requires c.in-Some.ensures (omega arith) c.if-at-self.false c.if-at-ge-MOST-ROWS.false refl refl refl in
+    let p = made_pushed c.args.self.now _ c.args.construct c.in-Some.size _ c.requires c.in-Some.ensures (omega arith) c.if-at-self.false c.if-at-ge-MOST_ROWS.false refl refl refl in
     record { stays = p.stays; made = p.made; spends = p.spends }
