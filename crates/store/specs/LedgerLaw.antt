@@ -1,7 +1,7 @@
 -- The law that a ledger owes as a store, proved: it knows nothing past its rows, and so no code that is too large.
-use Rattle.std.specs.Prelude.{◌≡◌, ℕ, ◌+◌, ◌<◌, ◌≤◌, List, [], ◌∷◌, ◌++◌, length, get_or, take, Some, None, Option, unwrap_or, refl, suc}
+use Rattle.std.specs.Prelude.{◌≡◌, ℕ, ◌+◌, ◌<◌, ◌≤◌, List, [], ◌∷◌, ◌++◌, length, get_or, take, Some, None, Option, unwrap_or, suc}
 use Rattle.std.proofs.Common.{sym, ap, ◌∙◌, subst, ◌⊎◌, inl, inr}
-use Rattle.std.proofs.Math.Nat.{zero-add, add_assoc, suc-add, add-suc}
+use Rattle.std.proofs.Math.Nat.{zero-add, add-zero, add_assoc, suc-add}
 use Rattle.std.proofs.lemmas.List.{get_or_past, length_push, length-take-le}
 use Rattle.std.proofs.lemmas.Bool.{cases_lt}
 use Rattle.std.proofs.lemmas.Option.{none-some}
@@ -15,7 +15,7 @@ use Rattle.store.specs.Ledger.{at, onto, rows_code, code_of, Sound, RowSound}
 -- a code for each row, after those at hand
 pub length-onto : (cs : List (Option Code)) (rows : List Row) → length (onto cs rows) ≡ length cs + length rows
 unfolding onto
-length-onto cs [] = refl
+length-onto cs [] = sym (add-zero (length cs))
 length-onto cs (r ∷ rows) =
     length-onto (cs ++ (meant (at cs) r.construct ∷ [])) rows
     ∙ ap (λ (n : ℕ). n + length rows) (length_push cs (meant (at cs) r.construct))

@@ -11,5 +11,5 @@ use Rattle.generator.proofs.planning.plan_input.Goals as goal
 pub returns : goal.returns
 returns c code t =
     let small : c.args.input < 8 = omega arith in
-    subst (λ (b : Bool). Planned code t (judge b bad_argument (leaf (read code t) c.args.cell (Code.input c.args.input) (Plain Number))) c.plan-leaf.result) (sym (lt-ltb c.args.input 8 small))
-    (c.plan-leaf.ensures code t (Code.input c.args.input) refl)
+    subst (λ (b : Bool). Planned code t (judge b bad_argument (leaf (read code t) c.args.cell (Code.input c.args.input) (Plain Number))) c.plan_leaf.result) (sym (lt-ltb c.args.input 8 small))
+    (c.plan_leaf.ensures code t (Code.input c.args.input) refl)

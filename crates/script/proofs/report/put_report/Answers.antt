@@ -5,10 +5,10 @@ use Rattle.script.specs.declared.fault.RunFault.{RunFault}
 use Rattle.script.specs.Report.{line_of, tail}
 use Rattle.script.proofs.report.put_report.Goals as goal
 
-pub returns-in-default : goal.returns-in-default
-returns-in-default c =
+pub returns-in_default : goal.returns-in_default
+returns-in_default c =
     let told = λ (o : Option RunFault). line_of c.args.answer.now.steps o c.args.serials.now in
-    laid_same (sym (ap told c.in-default.is)) (laid_then c.put-word-number-p.ensures c.put.ensures)
+    laid_same (sym (ap told c.in_default.is)) (laid_then c.put_word_number-p.ensures c.put.ensures)
 
 pub returns : goal.returns
 returns c =
@@ -17,4 +17,4 @@ returns c =
     let number = c.number.ensures ∙ ap refusal_number c.refusal.ensures in
     laid_same
     (ap (λ (n : ℕ). (codes "refused " ++ decimal n) ++ (codes " at " ++ decimal f.place) ++ tail f.cause c.args.serials.now ++ (10 ∷ [])) number ∙ sym (ap told c.in-Some.is))
-    (laid_then (laid_then (laid_then c.put-word-number-p-2.ensures c.put-word-number-p-3.ensures) c.put-tail-p.ensures) c.put-2.ensures)
+    (laid_then (laid_then (laid_then c.put_word_number-p-2.ensures c.put_word_number-p-3.ensures) c.put_tail-p.ensures) c.put-2.ensures)

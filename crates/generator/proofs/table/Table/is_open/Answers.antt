@@ -10,6 +10,6 @@ pub returns : goal.returns
 returns c code =
     let t = c.args.self.now in
     let all : t.depth - 0 ≡ t.depth = omega arith in
-    c.is-some.ensures
+    c.is_some.ensures
     ∙ search_tells code (record { serial = c.args.serial; binding = Parameter Number }) (take (t.depth - 0) t.binders) c.find.result c.find.ensures
     ∙ ap (λ (n : ℕ). is_open (reverse (map (read_binder code) (take n t.binders))) c.args.serial) all

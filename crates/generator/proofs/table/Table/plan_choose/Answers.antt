@@ -17,55 +17,55 @@ use Rattle.generator.specs.Reads.{read, read_piece, read_fault}
 use Rattle.generator.specs.Planning.{Planned}
 use Rattle.generator.proofs.table.Table.plan_choose.Goals as goal
 
-pub returns-in-err-x : goal.returns-in-err-x
-returns-in-err-x c code stands =
+pub returns-in_err-x : goal.returns-in_err-x
+returns-in_err-x c code stands =
     let t = c.args.self.now in
     let st = read code t in
-    let p = err_from_is_err_and c.from-residual-in-err-x.result c.from-residual-in-err-x.ensures.1 in
-    let to : slot_of c.args.cell ≡ Ok c.in-ok-to.to = sym c.in-ok-to.ensures.0 in
-    let stops : used_three st c.args.condition c.args.then c.args.otherwise ≡ Err (read_fault c.in-err-x.field-0.0) = c.in-err-x.ensures code in
+    let p = err_from_is_err_and c.from_residual-in_err-x.result c.from_residual-in_err-x.ensures.1 in
+    let to : slot_of c.args.cell ≡ Ok c.in_ok-to.to = sym c.in_ok-to.ensures.0 in
+    let stops : used_three st c.args.condition c.args.then c.args.otherwise ≡ Err (read_fault c.in_err-x.field-0.0) = c.in_err-x.ensures code in
     subst (Planned code t (choose_plan stated st c.args.cell c.args.condition c.args.then c.args.otherwise)) (sym (p.1 ∙ ap Err p.2)) (choose_direct st c.args.cell c.args.condition c.args.then c.args.otherwise ∙ rw (to, stops) refl)
 
-pub returns-in-err-ty : goal.returns-in-err-ty
-returns-in-err-ty c code stands =
+pub returns-in_err-ty : goal.returns-in_err-ty
+returns-in_err-ty c code stands =
     let t = c.args.self.now in
     let st = read code t in
-    let p = err_from_is_err_and c.from-residual-in-err-ty.result c.from-residual-in-err-ty.ensures.1 in
-    let to : slot_of c.args.cell ≡ Ok c.in-ok-to.to = sym c.in-ok-to.ensures.0 in
-    let cells : used_three st c.args.condition c.args.then c.args.otherwise ≡ Ok (read_piece code c.in-ok-x.x, read_piece code c.in-ok-x.y, read_piece code c.in-ok-x.z) = c.in-ok-x.ensures.0 code in
-    let stops : typed (chosen c.in-ok-x.x.ty c.in-ok-x.y.ty c.in-ok-x.z.ty) Ok ≡ Err (read_fault c.in-err-ty.field-0.0) = ap (λ (o : Option Ty). typed o Ok) (sym c.chosen.ensures) ∙ sym c.in-err-ty.ensures in
+    let p = err_from_is_err_and c.from_residual-in_err-ty.result c.from_residual-in_err-ty.ensures.1 in
+    let to : slot_of c.args.cell ≡ Ok c.in_ok-to.to = sym c.in_ok-to.ensures.0 in
+    let cells : used_three st c.args.condition c.args.then c.args.otherwise ≡ Ok (read_piece code c.in_ok-x.x, read_piece code c.in_ok-x.y, read_piece code c.in_ok-x.z) = c.in_ok-x.ensures.0 code in
+    let stops : typed (chosen c.in_ok-x.x.ty c.in_ok-x.y.ty c.in_ok-x.z.ty) Ok ≡ Err (read_fault c.in_err-ty.field-0.0) = ap (λ (o : Option Ty). typed o Ok) (sym c.chosen.ensures) ∙ sym c.in_err-ty.ensures in
     subst (Planned code t (choose_plan stated st c.args.cell c.args.condition c.args.then c.args.otherwise)) (sym (p.1 ∙ ap Err p.2)) (choose_direct st c.args.cell c.args.condition c.args.then c.args.otherwise ∙ rw (to, cells, stops) refl)
 
-pub returns-in-err-size : goal.returns-in-err-size
-returns-in-err-size c code stands =
+pub returns-in_err-size : goal.returns-in_err-size
+returns-in_err-size c code stands =
     let t = c.args.self.now in
     let st = read code t in
-    let p = err_from_is_err_and c.from-residual-in-err-size.result c.from-residual-in-err-size.ensures.1 in
-    let to : slot_of c.args.cell ≡ Ok c.in-ok-to.to = sym c.in-ok-to.ensures.0 in
-    let cells : used_three st c.args.condition c.args.then c.args.otherwise ≡ Ok (read_piece code c.in-ok-x.x, read_piece code c.in-ok-x.y, read_piece code c.in-ok-x.z) = c.in-ok-x.ensures.0 code in
-    let kind : typed (chosen c.in-ok-x.x.ty c.in-ok-x.y.ty c.in-ok-x.z.ty) Ok ≡ Ok c.in-ok-ty.ty = ap (λ (o : Option Ty). typed o Ok) (sym c.chosen.ensures) ∙ sym c.in-ok-ty.ensures in
-    let stops : sized (1 + c.in-ok-x.x.size + c.in-ok-x.y.size + c.in-ok-x.z.size) ≡ Err (read_fault c.in-err-size.field-0.0) = sym c.in-err-size.ensures in
+    let p = err_from_is_err_and c.from_residual-in_err-size.result c.from_residual-in_err-size.ensures.1 in
+    let to : slot_of c.args.cell ≡ Ok c.in_ok-to.to = sym c.in_ok-to.ensures.0 in
+    let cells : used_three st c.args.condition c.args.then c.args.otherwise ≡ Ok (read_piece code c.in_ok-x.x, read_piece code c.in_ok-x.y, read_piece code c.in_ok-x.z) = c.in_ok-x.ensures.0 code in
+    let kind : typed (chosen c.in_ok-x.x.ty c.in_ok-x.y.ty c.in_ok-x.z.ty) Ok ≡ Ok c.in_ok-ty.ty = ap (λ (o : Option Ty). typed o Ok) (sym c.chosen.ensures) ∙ sym c.in_ok-ty.ensures in
+    let stops : sized (1 + c.in_ok-x.x.size + c.in_ok-x.y.size + c.in_ok-x.z.size) ≡ Err (read_fault c.in_err-size.field-0.0) = sym c.in_err-size.ensures in
     subst (Planned code t (choose_plan stated st c.args.cell c.args.condition c.args.then c.args.otherwise)) (sym (p.1 ∙ ap Err p.2)) (choose_direct st c.args.cell c.args.condition c.args.then c.args.otherwise ∙ rw (to, cells, kind, stops) refl)
 
 pub returns : goal.returns
 returns c code stands =
     let t = c.args.self.now in
     let st = read code t in
-    let to : slot_of c.args.cell ≡ Ok c.in-ok-to.to = sym c.in-ok-to.ensures.0 in
-    let cells : used_three st c.args.condition c.args.then c.args.otherwise ≡ Ok (read_piece code c.in-ok-x.x, read_piece code c.in-ok-x.y, read_piece code c.in-ok-x.z) = c.in-ok-x.ensures.0 code in
-    let kind : typed (chosen c.in-ok-x.x.ty c.in-ok-x.y.ty c.in-ok-x.z.ty) Ok ≡ Ok c.in-ok-ty.ty = ap (λ (o : Option Ty). typed o Ok) (sym c.chosen.ensures) ∙ sym c.in-ok-ty.ensures in
-    let large : sized (1 + c.in-ok-x.x.size + c.in-ok-x.y.size + c.in-ok-x.z.size) ≡ Ok c.in-ok-size.size = sym c.in-ok-size.ensures in
-    let known-x = cell_known code t c.args.condition c.in-ok-x.x stands c.in-ok-x.ensures.1 in
-    let ascends-x = cell_ascending code t c.args.condition c.in-ok-x.x stands c.in-ok-x.ensures.1 in
-    let known-y = cell_known code t c.args.then c.in-ok-x.y stands c.in-ok-x.ensures.2 in
-    let ascends-y = cell_ascending code t c.args.then c.in-ok-x.y stands c.in-ok-x.ensures.2 in
-    let known-z = cell_known code t c.args.otherwise c.in-ok-x.z stands c.in-ok-x.ensures.3 in
-    let ascends-z = cell_ascending code t c.args.otherwise c.in-ok-x.z stands c.in-ok-x.ensures.3 in
-    let piece : Piece = record { code = Code.choose (read_piece code c.in-ok-x.x).code (read_piece code c.in-ok-x.y).code (read_piece code c.in-ok-x.z).code; type = c.in-ok-ty.ty; size = c.in-ok-size.size; names = merge (names c.in-ok-x.x.names) (merge (names c.in-ok-x.y.names) (names c.in-ok-x.z.names)) } in
+    let to : slot_of c.args.cell ≡ Ok c.in_ok-to.to = sym c.in_ok-to.ensures.0 in
+    let cells : used_three st c.args.condition c.args.then c.args.otherwise ≡ Ok (read_piece code c.in_ok-x.x, read_piece code c.in_ok-x.y, read_piece code c.in_ok-x.z) = c.in_ok-x.ensures.0 code in
+    let kind : typed (chosen c.in_ok-x.x.ty c.in_ok-x.y.ty c.in_ok-x.z.ty) Ok ≡ Ok c.in_ok-ty.ty = ap (λ (o : Option Ty). typed o Ok) (sym c.chosen.ensures) ∙ sym c.in_ok-ty.ensures in
+    let large : sized (1 + c.in_ok-x.x.size + c.in_ok-x.y.size + c.in_ok-x.z.size) ≡ Ok c.in_ok-size.size = sym c.in_ok-size.ensures in
+    let known-x = cell_known code t c.args.condition c.in_ok-x.x stands c.in_ok-x.ensures.1 in
+    let ascends-x = cell_ascending code t c.args.condition c.in_ok-x.x stands c.in_ok-x.ensures.1 in
+    let known-y = cell_known code t c.args.then c.in_ok-x.y stands c.in_ok-x.ensures.2 in
+    let ascends-y = cell_ascending code t c.args.then c.in_ok-x.y stands c.in_ok-x.ensures.2 in
+    let known-z = cell_known code t c.args.otherwise c.in_ok-x.z stands c.in_ok-x.ensures.3 in
+    let ascends-z = cell_ascending code t c.args.otherwise c.in_ok-x.z stands c.in_ok-x.ensures.3 in
+    let piece : Piece = record { code = Code.choose (read_piece code c.in_ok-x.x).code (read_piece code c.in_ok-x.y).code (read_piece code c.in_ok-x.z).code; type = c.in_ok-ty.ty; size = c.in_ok-size.size; names = merge (names c.in_ok-x.x.names) (merge (names c.in_ok-x.y.names) (names c.in_ok-x.z.names)) } in
     let plans : choose_plan stated st c.args.cell c.args.condition c.args.then c.args.otherwise ≡ into st c.args.cell piece = choose_direct st c.args.cell c.args.condition c.args.then c.args.otherwise ∙ rw (to, cells, kind, large) refl in
     let few = (made_good code t (call.Choose c.args.cell c.args.condition c.args.then c.args.otherwise) _ stands (ap makes plans)).1.few in
-    let tail = merged _ (names c.in-ok-x.y.names) (names c.in-ok-x.z.names) (c.merge.ensures ascends-y ascends-z) (few_tail (names c.in-ok-x.x.names) (names c.in-ok-x.y.names) (names c.in-ok-x.z.names) few) in
-    let ascends = subst (Ascending 0) (sym tail) (ascending_merge 0 (names c.in-ok-x.y.names) (names c.in-ok-x.z.names) ascends-y ascends-z) in
-    let all : names c.merge-names.result ≡ merge (names c.in-ok-x.x.names) (merge (names c.in-ok-x.y.names) (names c.in-ok-x.z.names)) =
-    merged _ (names c.in-ok-x.x.names) (merge (names c.in-ok-x.y.names) (names c.in-ok-x.z.names)) (c.merge-names.ensures ascends-x ascends ∙ ap (λ (l : List ℕ). take 16 (merge (names c.in-ok-x.x.names) l)) tail) few in
-    kept_sketched c.args.cell piece plans c.in-ok-to.ensures.1 refl (meant_three Code.choose known-x known-y known-z) refl refl all
+    let tail = merged _ (names c.in_ok-x.y.names) (names c.in_ok-x.z.names) (c.merge.ensures ascends-y ascends-z) (few_tail (names c.in_ok-x.x.names) (names c.in_ok-x.y.names) (names c.in_ok-x.z.names) few) in
+    let ascends = subst (Ascending 0) (sym tail) (ascending_merge 0 (names c.in_ok-x.y.names) (names c.in_ok-x.z.names) ascends-y ascends-z) in
+    let all : names c.merge-names.result ≡ merge (names c.in_ok-x.x.names) (merge (names c.in_ok-x.y.names) (names c.in_ok-x.z.names)) =
+    merged _ (names c.in_ok-x.x.names) (merge (names c.in_ok-x.y.names) (names c.in_ok-x.z.names)) (c.merge-names.ensures ascends-x ascends ∙ ap (λ (l : List ℕ). take 16 (merge (names c.in_ok-x.x.names) l)) tail) few in
+    kept_sketched c.args.cell piece plans c.in_ok-to.ensures.1 refl (meant_three Code.choose known-x known-y known-z) refl refl all

@@ -4,8 +4,8 @@ use Rattle.store.proofs.Makes.{made_bad, made_large, made_full, made_pushed, spe
 use Rattle.store.proofs.ledger.LedgerStore.make.Goals as goal
 use Rattle.store.proofs.ledger.LedgerStore.make.Goals.{then-at-self-via-then-at-self, then-at-self-via-else-at-self+then-at-ge-MOST_ROWS}
 
-pub returns-in-default : goal.returns-in-default
-returns-in-default c = record { stays = c.requires; made = made_bad c.args.self.now c.args.construct c.requires c.in-default.ensures; spends = spends_bad c.args.self.now c.args.construct _ c.requires c.in-default.ensures }
+pub returns-in_default : goal.returns-in_default
+returns-in_default c = record { stays = c.requires; made = made_bad c.args.self.now c.args.construct c.requires c.in_default.ensures; spends = spends_bad c.args.self.now c.args.construct _ c.requires c.in_default.ensures }
 
 pub returns-then-size-from : goal.returns-then-size-from
 returns-then-size-from c =

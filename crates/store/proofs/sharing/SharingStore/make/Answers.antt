@@ -11,28 +11,28 @@ returns-in-Some g c =
       shares = shares_hit s c.args.construct c.in-Some.handle c.in-Some.ensures;
     }
 
-pub returns-in-err-handle : goal.returns-in-err-handle
-returns-in-err-handle g c =
+pub returns-in_err-handle : goal.returns-in_err-handle
+returns-in_err-handle g c =
     let s = c.args.self.now in
-    let e = c.in-err-handle.ensures in
+    let e = c.in_err-handle.ensures in
     record {
       stays = (e.stays, remembers_more _ _ s.memory e.made.kept c.requires.1);
       made = search rules;
-      shares = shares_refused s _ c.args.construct c.from-residual.result c.from-residual.ensures.0 c.in-default.ensures refl;
+      shares = shares_refused s _ c.args.construct c.from_residual.result c.from_residual.ensures.0 c.in_default.ensures refl;
     }
 
 pub returns : goal.returns
 returns g c =
     let s = c.args.self.now in
-    let e = c.in-ok-handle.ensures in
+    let e = c.in_ok-handle.ensures in
     let store = g.S.Store in
     let below = c.make.new.self in
     let memory = c.note.new.self in
     let kept =
     shared_made (store.code s.below) (store.code below) s.memory memory (store.units s.below) (store.units below) (store.price s.below) (store.price below)
-    c.args.construct c.in-ok-handle.handle c.requires.1 e.made c.note.ensures in
+    c.args.construct c.in_ok-handle.handle c.requires.1 e.made c.note.ensures in
     record {
       stays = (e.stays, kept);
       made = e.made;
-      shares = shares_noted s (record { below = below; memory = memory }) c.args.construct c.in-ok-handle.handle c.in-default.ensures c.note.ensures;
+      shares = shares_noted s (record { below = below; memory = memory }) c.args.construct c.in_ok-handle.handle c.in_default.ensures c.note.ensures;
     }
