@@ -4,8 +4,8 @@ use Rattle.text.proofs.Digits.{room_left, digit_more, digit_last}
 use Rattle.text.proofs.Laying.{laid_same}
 use Rattle.text.proofs.page.put_decimal.Goals as goal
 
-pub overflow-sub-first : goal.overflow-sub-first
-overflow-sub-first c = room_left _ _ c.loop-rest.rest c.args.n c.loop-rest.invariant.0 c.loop-rest.invariant.1 (omega arith) (omega arith) (omega arith) c.loop-rest.invariant.3
+pub overflow_sub-first : goal.overflow_sub-first
+overflow_sub-first c = room_left _ _ c.loop-rest.rest c.args.n c.loop-rest.invariant.0 c.loop-rest.invariant.1 (omega arith) (omega arith) (omega arith) c.loop-rest.invariant.3
 
 pub loop-rest-preserved : goal.loop-rest-preserved
 loop-rest-preserved c =

@@ -22,8 +22,8 @@ returns-then-body_length c =
     let e = read_short at.script.now _ at.place c.rest.ensures c.in-Some.kind c.in-Some.ensures (omega arith) in
     record { value = sym (ap read_value e); after = sym (ap (read_place at.place) e); script = refl }
 
-pub invariant-of-self : goal.invariant-of-self
-invariant-of-self c =
+pub invariant_of-self : goal.invariant_of-self
+invariant_of-self c =
     let at = c.args.self.now in
     (omega (arith, fits at.script.now _ at.place c.rest.ensures _ (omega (arith, ltb-false)) c.if-body_length.false), tt)
 
