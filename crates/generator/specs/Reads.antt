@@ -15,7 +15,7 @@ use Rattle.generator.specs.declared.binder.Binding.TheVariants.{Parameter, Bound
 use Rattle.generator.specs.declared.table.Table.{Table}
 use Rattle.generator.specs.declared.fault.GeneratorFault.{GeneratorFault}
 use Rattle.generator.specs.declared.fault.GeneratorFault.TheVariants as fault
-use Rattle.model.specs.Model.{Piece, Binder, parameter, bound, State, Fault, plain, escaped, no_room, bad_argument, empty_cell, no_binder, no_mark, still_Open, not_closed, Wrong_type, too_deep, names_spent, too_large, short_output}
+use Rattle.model.specs.Model.{Piece, Binder, parameter, bound, State, Fault, plain, escaped, no_room, bad_argument, empty_cell, no_binder, no_mark, still_open, not_closed, wrong_type, too_deep, names_spent, too_large, short_output}
 
 -- the code of a known handle; each handle that a generator holds is known
 abbrev pub known_code : Option Code → Code
@@ -63,9 +63,9 @@ read_fault fault.EmptyCell = plain empty_cell
 read_fault (fault.Escaped cell names) = escaped cell names
 read_fault fault.NoBinder = plain no_binder
 read_fault fault.NoMark = plain no_mark
-read_fault fault.StillOpen = plain still_Open
+read_fault fault.StillOpen = plain still_open
 read_fault fault.NotClosed = plain not_closed
-read_fault fault.WrongType = plain Wrong_type
+read_fault fault.WrongType = plain wrong_type
 read_fault fault.TooDeep = plain too_deep
 read_fault fault.NamesSpent = plain names_spent
 read_fault fault.TooLarge = plain too_large

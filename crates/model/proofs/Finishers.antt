@@ -13,7 +13,7 @@ use Rattle.code.specs.Names.{merge, without}
 use Rattle.code.specs.Text.{text}
 use Rattle.code.specs.Typing.{applied}
 use Rattle.model.specs.Model
-use Rattle.model.specs.Model.{State, Piece, Binder, parameter, bound, Plan, Fault, unlimited, cell, put, judged, judge, full, typed, usable, escaping, escaped, bad_argument, still_Open, no_binder, not_closed, short_output, into, closed_with, close_latest, print_plan}
+use Rattle.model.specs.Model.{State, Piece, Binder, parameter, bound, Plan, Fault, unlimited, cell, put, judged, judge, full, typed, usable, escaping, escaped, bad_argument, still_open, no_binder, not_closed, short_output, into, closed_with, close_latest, print_plan}
 use Rattle.model.specs.Finish.{Context, plug, apply_function, function_body, let_body, granted_in_order, Finishing}
 use Rattle.model.specs.Calls
 use Rattle.model.specs.Calls.{sheet, made, does}
@@ -157,7 +157,7 @@ module _ (n i j : ℕ) (li : i < 16) (lj : j < 16) (apart : i ≢ j) where
   unmark cells bs m (x ∷ ms) e h =
       ⊎_elim
       (λ l. let r = unmark cells bs m ms e (marked_more ms x (length bs) h.0 h.1) in
-      (r.0, step call.Finish (λ k. judge (le-leb (length bs) x (omega arith) k) still_Open (Ok (state cells bs ms n))) r.1, r.2, r.3))
+      (r.0, step call.Finish (λ k. judge (le-leb (length bs) x (omega arith) k) still_open (Ok (state cells bs ms n))) r.1, r.2, r.3))
       (λ l. (x ∷ ms, done, l, (l, h.1)))
       (cases_lt m x)
 

@@ -22,7 +22,7 @@ use Rattle.model.proofs.Numbers.{operator_none, operator_some, base_none, base_s
 
 -- a refusal is told by its number
 abbrev table : List Refusal
-table = Model.bad_argument ∷ Model.bad_argument ∷ Model.unknown_kind ∷ Model.cut_short ∷ Model.no_block ∷ Model.steps_spent ∷ Model.empty_cell ∷ Model.bad_argument ∷ Model.no_binder ∷ Model.no_mark ∷ Model.still_Open ∷ Model.not_closed ∷ Model.Wrong_type ∷ Model.too_deep ∷ Model.names_spent ∷ Model.too_large ∷ Model.bad_argument ∷ Model.short_output ∷ []
+table = Model.bad_argument ∷ Model.bad_argument ∷ Model.unknown_kind ∷ Model.cut_short ∷ Model.no_block ∷ Model.steps_spent ∷ Model.empty_cell ∷ Model.bad_argument ∷ Model.no_binder ∷ Model.no_mark ∷ Model.still_open ∷ Model.not_closed ∷ Model.wrong_type ∷ Model.too_deep ∷ Model.names_spent ∷ Model.too_large ∷ Model.bad_argument ∷ Model.short_output ∷ []
 
 abbrev of_number : ℕ → Refusal
 of_number n = get_or table n Model.bad_argument
@@ -36,9 +36,9 @@ back Model.steps_spent = refl
 back Model.empty_cell = refl
 back Model.no_binder = refl
 back Model.no_mark = refl
-back Model.still_Open = refl
+back Model.still_open = refl
 back Model.not_closed = refl
-back Model.Wrong_type = refl
+back Model.wrong_type = refl
 back Model.too_deep = refl
 back Model.names_spent = refl
 back Model.too_large = refl
@@ -53,9 +53,9 @@ not_seven Model.steps_spent e = omega arith
 not_seven Model.empty_cell e = omega arith
 not_seven Model.no_binder e = omega arith
 not_seven Model.no_mark e = omega arith
-not_seven Model.still_Open e = omega arith
+not_seven Model.still_open e = omega arith
 not_seven Model.not_closed e = omega arith
-not_seven Model.Wrong_type e = omega arith
+not_seven Model.wrong_type e = omega arith
 not_seven Model.too_deep e = omega arith
 not_seven Model.names_spent e = omega arith
 not_seven Model.too_large e = omega arith
@@ -70,9 +70,9 @@ low_plain Model.steps_spent = omega arith
 low_plain Model.empty_cell = omega arith
 low_plain Model.no_binder = omega arith
 low_plain Model.no_mark = omega arith
-low_plain Model.still_Open = omega arith
+low_plain Model.still_open = omega arith
 low_plain Model.not_closed = omega arith
-low_plain Model.Wrong_type = omega arith
+low_plain Model.wrong_type = omega arith
 low_plain Model.too_deep = omega arith
 low_plain Model.names_spent = omega arith
 low_plain Model.too_large = omega arith
@@ -87,9 +87,9 @@ high_plain Model.steps_spent = omega arith
 high_plain Model.empty_cell = omega arith
 high_plain Model.no_binder = omega arith
 high_plain Model.no_mark = omega arith
-high_plain Model.still_Open = omega arith
+high_plain Model.still_open = omega arith
 high_plain Model.not_closed = omega arith
-high_plain Model.Wrong_type = omega arith
+high_plain Model.wrong_type = omega arith
 high_plain Model.too_deep = omega arith
 high_plain Model.names_spent = omega arith
 high_plain Model.too_large = omega arith
@@ -204,7 +204,7 @@ module _ (P : Fault → Type 0) where
   right_full None r p l k = (p refl, l)
   right_full (Some x) r p l k = k x refl
 
-  right_typed : {A : Type 0} (o : Option Ty) (r : Ty → Result A Fault) → (o ≡ None → P (plain Model.Wrong_type)) → Below 12 → ((t : Ty) → o ≡ Some t → Right (r t)) → Right (typed o r)
+  right_typed : {A : Type 0} (o : Option Ty) (r : Ty → Result A Fault) → (o ≡ None → P (plain Model.wrong_type)) → Below 12 → ((t : Ty) → o ≡ Some t → Right (r t)) → Right (typed o r)
   right_typed None r p l k = (p refl, l)
   right_typed (Some t) r p l k = k t refl
 
@@ -438,7 +438,7 @@ module _ (page : Sheet) (st : State) where
   right_finish_at (m ∷ ms) e =
       let P = Applies page st call.Finish in
       let f : floor st.marks ≡ m = ap floor e in
-      right_judged P (leb (length st.open_binders) m) (plain Model.still_Open) _ (λ q. Refusals.binder_open (omega (arith, leb-false (length st.open_binders) m q)))
+      right_judged P (leb (length st.open_binders) m) (plain Model.still_open) _ (λ q. Refusals.binder_open (omega (arith, leb-false (length st.open_binders) m q)))
       (below_finish 10 (λ z. absurd (true≢false (lawful_arguments page call.Finish) refl z)) (λ i j q. absurd (fulls_none st i j q)) (λ i m q. absurd (no_escape_told _ refl i m q)) (λ e0'. absurd (let g = sym e ∙ e0' in omega (arith, ap length g))) (λ e0'. omega arith)) λ q.
       (below_finish 18 (λ z. absurd (true≢false (lawful_arguments page call.Finish) refl z)) (λ i j q. absurd (fulls_none st i j q)) (λ i m q. absurd (no_escape_told _ refl i m q)) (λ e0'. absurd (let g = sym e ∙ e0' in omega (arith, ap length g))) (λ e0'. absurd (omega (arith, leb-true (length st.open_binders) m q))))
 

@@ -45,7 +45,7 @@ fresh = record { cells = replicate 16 None; open_binders = []; marks = []; next 
 
 -- the refusals that hold nothing more
 pub data Refusal : Type 0 where
-  bad_argument unknown_kind cut_short no_block steps_spent empty_cell no_binder no_mark still_Open not_closed Wrong_type too_deep names_spent too_large short_output : Refusal
+  bad_argument unknown_kind cut_short no_block steps_spent empty_cell no_binder no_mark still_open not_closed wrong_type too_deep names_spent too_large short_output : Refusal
 
 -- their numbers
 abbrev pub number : Refusal → ℕ
@@ -57,9 +57,9 @@ number steps_spent = refusal_number refusals.StepsSpent
 number empty_cell = refusal_number refusals.EmptyCell
 number no_binder = refusal_number refusals.NoBinder
 number no_mark = refusal_number refusals.NoMark
-number still_Open = refusal_number refusals.StillOpen
+number still_open = refusal_number refusals.StillOpen
 number not_closed = refusal_number refusals.NotClosed
-number Wrong_type = refusal_number refusals.WrongType
+number wrong_type = refusal_number refusals.WrongType
 number too_deep = refusal_number refusals.TooDeep
 number names_spent = refusal_number refusals.NamesSpent
 number too_large = refusal_number refusals.TooLarge
@@ -98,7 +98,7 @@ full (Some p) k = k p
 
 -- a construct must have a type
 abbrev pub typed : {A : Type 0} → Option Ty → (Ty → Result A Fault) → Result A Fault
-typed None k = Err (plain Wrong_type)
+typed None k = Err (plain wrong_type)
 typed (Some t) k = k t
 
 -- a binder of this serial is open
@@ -249,7 +249,7 @@ module _ (limits : Limits) where
 
   abbrev pub finish_mark : State → List ℕ → Result State Fault
   finish_mark st [] = Err (plain no_mark)
-  finish_mark st (m ∷ ms) = judge (nat_le (length st.open_binders) m) still_Open (Ok (record { cells = st.cells; open_binders = st.open_binders; marks = ms; next = st.next }))
+  finish_mark st (m ∷ ms) = judge (nat_le (length st.open_binders) m) still_open (Ok (record { cells = st.cells; open_binders = st.open_binders; marks = ms; next = st.next }))
 
   -- the latest mark taken away, with no binder open since
   abbrev pub finished : State → Result State Fault

@@ -59,14 +59,14 @@ pub data Applies (page : Sheet) (st : State) : Call → Fault → Type 0 where
   unmarked_finish : st.marks ≡ [] → Applies page st call.Finish (plain Model.no_mark)
   unmarked_leave : st.marks ≡ [] → Applies page st call.Leave (plain Model.no_mark)
   -- 10: a FINISH with a binder open since the latest mark
-  binder_open : floor st.marks < length st.open_binders → Applies page st call.Finish (plain Model.still_Open)
+  binder_open : floor st.marks < length st.open_binders → Applies page st call.Finish (plain Model.still_open)
   -- 11: a PRINT of code with free names
   names_left : {a : ℕ} {x : Piece} → cell st a ≡ Some x → 0 < length x.names → Applies page st (call.Print a) (plain Model.not_closed)
   -- 12: a construct that would not be well typed
-  ill_joined : {c o a b : ℕ} {op : Operator} {x y : Piece} → operator o ≡ Some op → cell st a ≡ Some x → cell st b ≡ Some y → joined op x.type y.type ≡ None → Applies page st (call.Join c o a b) (plain Model.Wrong_type)
-  ill_chosen : {c a b d : ℕ} {x y z : Piece} → cell st a ≡ Some x → cell st b ≡ Some y → cell st d ≡ Some z → chosen x.type y.type z.type ≡ None → Applies page st (call.Choose c a b d) (plain Model.Wrong_type)
-  ill_applied : {c f a : ℕ} {x y : Piece} → cell st f ≡ Some x → cell st a ≡ Some y → applied x.type y.type ≡ None → Applies page st (call.Apply c f a) (plain Model.Wrong_type)
-  ill_closed : {c a s : ℕ} {p : Base} {x : Piece} {rest : List Binder} → cell st a ≡ Some x → st.open_binders ≡ parameter s p ∷ rest → abstracted p x.type ≡ None → Applies page st (call.Close c a) (plain Model.Wrong_type)
+  ill_joined : {c o a b : ℕ} {op : Operator} {x y : Piece} → operator o ≡ Some op → cell st a ≡ Some x → cell st b ≡ Some y → joined op x.type y.type ≡ None → Applies page st (call.Join c o a b) (plain Model.wrong_type)
+  ill_chosen : {c a b d : ℕ} {x y z : Piece} → cell st a ≡ Some x → cell st b ≡ Some y → cell st d ≡ Some z → chosen x.type y.type z.type ≡ None → Applies page st (call.Choose c a b d) (plain Model.wrong_type)
+  ill_applied : {c f a : ℕ} {x y : Piece} → cell st f ≡ Some x → cell st a ≡ Some y → applied x.type y.type ≡ None → Applies page st (call.Apply c f a) (plain Model.wrong_type)
+  ill_closed : {c a s : ℕ} {p : Base} {x : Piece} {rest : List Binder} → cell st a ≡ Some x → st.open_binders ≡ parameter s p ∷ rest → abstracted p x.type ≡ None → Applies page st (call.Close c a) (plain Model.wrong_type)
   -- 13: a 17th open binder or a 9th mark
   deep_fun : {c p : ℕ} → 16 ≤ length st.open_binders → Applies page st (call.Fun c p) (plain Model.too_deep)
   deep_let : {c a : ℕ} → 16 ≤ length st.open_binders → Applies page st (call.Let c a) (plain Model.too_deep)
