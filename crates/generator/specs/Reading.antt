@@ -1,12 +1,12 @@
 -- What a call reads first: its cells, and that none of the codes that it uses has escaped.
-use Rattle.std.specs.Prelude.{◌≡◌, ℕ, ◌<◌, List, Ok, Err, Result, nat_lt, slice_index_or}
+use Rattle.std.specs.Prelude.{◌≡◌, ℕ, ◌<◌, ◌≤◌, List, Ok, Err, Result, nat_lt, slice_index_or}
 use Rattle.store.specs.Meaning.{Codes}
 use Rattle.generator.specs.declared.cell.Cell.{Cell}
 use Rattle.generator.specs.declared.cell.Cell.TheVariants.{Empty, Full}
 use Rattle.generator.specs.declared.cell.Piece.{Piece as Held}
 use Rattle.generator.specs.declared.table.Table.{Table}
 use Rattle.generator.specs.declared.fault.GeneratorFault.{GeneratorFault}
-use Rattle.generator.specs.declared.fault.GeneratorFault.TheVariants.{EmptyCell}
+use Rattle.generator.specs.declared.fault.GeneratorFault.TheVariants.{BadArgument, EmptyCell}
 use Rattle.model.specs.Model.{Piece, State, Fault, bad_argument, judge, full, usable, cell}
 use Rattle.generator.specs.Reads.{read, read_piece, read_fault}
 
@@ -21,8 +21,13 @@ slot_of a = judge (nat_lt a 16) bad_argument (Ok a)
 
 -- a cell's number is its place, below 16
 abbrev pub Slot : ℕ → Result ℕ GeneratorFault → Type 0
-Slot c (Ok at) = (Ok at ≡ slot_of c) × (at ≡ c) × (at < 16)
-Slot c (Err f) = Err (read_fault f) ≡ slot_of c
+Slot c (Ok at) = (at ≡ c) × (at < 16)
+Slot c (Err f) = (f ≡ BadArgument) × (16 ≤ c)
+
+-- the code in a cell
+abbrev pub held : Cell → Result Held GeneratorFault
+held Empty = Err EmptyCell
+held (Full p) = Ok p
 
 -- the code in a cell, or that it is empty
 abbrev pub HeldAt : List Cell → ℕ → Result Held GeneratorFault → Type 0

@@ -1,15 +1,9 @@
 // The plans of the calls that open and close binders.
-ghost use Rattle.std.specs.Prelude.{◌≡◌, ℕ, ◌<◌, ◌≤◌, length, Ok};
-ghost use Rattle.code.specs.Names.{Ascending, merge, without};
-ghost use Rattle.code.specs.Numbers.{base as base-of};
-ghost use Rattle.code.specs.Serials.{names as names_of};
-ghost use Rattle.store.specs.Meaning.{Codes};
-ghost use Rattle.generator.specs.declared.table.Table.{Table as Kept-table};
-ghost use Rattle.model.specs.Model.{stated, lawful as lawful-of, floor as floor-of, opened, parameter as parameter-of, bound as bound_of, closed_with, fun_plan, let_plan, close_plan};
-ghost use Rattle.generator.specs.Reads.{read, read_piece, read_binding, read_binders, read_marks, read_result};
-ghost use Rattle.generator.specs.Standing.{Stands, StandsForSome, BindingKnown, Whole};
-ghost use Rattle.generator.specs.Planning.{Planned, but_latest};
-ghost use Rattle.generator.specs.Latest.{Latest};
+ghost use Rattle.std.specs.Prelude.{◌≡◌, ◌<◌, Ok};
+ghost use Rattle.code.specs.Numbers.{base as base_of};
+ghost use Rattle.model.specs.Model.{lawful as lawful_of};
+ghost use Rattle.generator.specs.Reads.{read_result};
+ghost use Rattle.generator.specs.Plans.{Ready, Closing, SomeOpen};
 
 use crate::binder::{Binder, Binding};
 use crate::cell::Piece;
@@ -26,7 +20,7 @@ impl Table {
     // A variable with the next serial, under a binder that opens with it.
     fn plan_open(&self, to: usize, binding: Binding) -> Result<Plan, GeneratorFault>
         requires { to < 16 }
-        ensures { (code : Codes) → Whole self.now → BindingKnown code binding → Planned code self.now (opened stated (read code self.now) to (read_binding code self.now.next binding)) result }
+        ensures { Ready self.now result }
     {
         if self.depth >= MOST_BINDERS {
             return Err(GeneratorFault::TooDeep);
@@ -47,7 +41,7 @@ impl Table {
     }
 
     pub(crate) fn plan_fun(&self, cell: u8, parameter: u8) -> Result<Plan, GeneratorFault>
-        ensures { (code : Codes) → Stands code self.now → Planned code self.now (fun_plan stated (read code self.now) cell parameter) result }
+        ensures { Ready self.now result }
     {
         let to = slot(cell)?;
         let base = judge_base(parameter)?;
@@ -55,7 +49,7 @@ impl Table {
     }
 
     pub(crate) fn plan_let(&self, cell: u8, bound: u8) -> Result<Plan, GeneratorFault>
-        ensures { (code : Codes) → Stands code self.now → Planned code self.now (let_plan stated (read code self.now) cell bound) result }
+        ensures { Ready self.now result }
     {
         let to = slot(cell)?;
         let x = self.read_one(bound)?;
@@ -63,9 +57,7 @@ impl Table {
     }
 
     // The number of binders that were open at the latest mark.
-    fn floor(&self) -> usize
-        ensures { Whole self.now → result ≡ floor-of (read_marks self.now) }
-    {
+    pub(crate) fn floor(&self) -> usize {
         if self.marked == 0 {
             0
         } else {
@@ -74,8 +66,8 @@ impl Table {
     }
 
     // The latest binder, where it was opened since the latest mark.
-    fn latest(&self) -> Result<Binder, GeneratorFault>
-        ensures { Latest self.now result }
+    pub(crate) fn latest(&self) -> Result<Binder, GeneratorFault>
+        ensures { SomeOpen self.now result }
     {
         if self.depth == 0 || self.depth <= self.floor() {
             return Err(GeneratorFault::NoBinder);
@@ -84,7 +76,7 @@ impl Table {
     }
 
     pub(crate) fn plan_close(&self, cell: u8, body: u8) -> Result<Plan, GeneratorFault>
-        ensures { (code : Codes) → Stands code self.now → Planned code self.now (close_plan stated (read code self.now) cell body) result }
+        ensures { Ready self.now result }
     {
         let to = slot(cell)?;
         let x = self.read_one(body)?;
@@ -98,7 +90,7 @@ impl Table {
 
 // The type that a number stands for.
 fn judge_base(number: u8) -> Result<Base, GeneratorFault>
-    ensures { read_result (λ b. b) result ≡ lawful-of (base-of number) Ok }
+    ensures { read_result (λ b. b) result ≡ lawful_of (base_of number) Ok }
 {
     Base::from_number(number).ok_or(GeneratorFault::BadArgument)
 }
@@ -111,7 +103,7 @@ fn plan_function(
     body: &Piece,
 ) -> Result<Plan, GeneratorFault>
     requires { to < 16 }
-    ensures { (code : Codes) (t : Kept-table) → 0 < t.depth → StandsForSome code body.now.handle → Planned code t (closed_with stated (read code t) to (read_piece code body.now) (parameter-of serial parameter) (but_latest (read_binders code t))) result }
+    ensures { Closing result }
 {
     let ty = judge_type(Ty::abstracted(parameter, body.ty))?;
     let size = judge_size(1 + body.size as u32)?;
@@ -129,7 +121,7 @@ fn plan_function(
 // The let with this bound code and body, its binder closed.
 fn plan_let_in(to: usize, serial: u16, bound: &Piece, body: &Piece) -> Result<Plan, GeneratorFault>
     requires { to < 16 }
-    ensures { (code : Codes) (t : Kept-table) → 0 < t.depth → StandsForSome code bound.now.handle → StandsForSome code body.now.handle → Ascending 0 (names_of bound.now.names) → Ascending 0 (names_of body.now.names) → length (merge (names_of bound.now.names) (without serial (names_of body.now.names))) ≤ 16 → Planned code t (closed_with stated (read code t) to (read_piece code body.now) (bound_of serial (read_piece code bound.now)) (but_latest (read_binders code t))) result }
+    ensures { Closing result }
 {
     let size = judge_size(1 + bound.size as u32 + body.size as u32)?;
     let construct = Construct::Let(serial, bound.handle, body.handle);

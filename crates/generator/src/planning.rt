@@ -1,14 +1,15 @@
 // The plans of the calls that leave the binders as they are.
 ghost use Rattle.std.specs.Prelude.{◌≡◌, Some, Ok, nat_le};
 ghost use Rattle.code.specs.Code.{Code};
-ghost use Rattle.code.specs.Numbers.{operator as operator-of};
+ghost use Rattle.code.specs.Numbers.{operator as operator_of};
 ghost use Rattle.store.specs.Meaning.{Codes, meant};
-ghost use Rattle.generator.specs.declared.table.Table.{Table as Kept-table};
-ghost use Rattle.model.specs.Model.{stated, judge, lawful as lawful-of, typed as typed-of, too_large, leaf, join_plan, choose_plan, apply_plan};
+ghost use Rattle.generator.specs.declared.table.Table.{Table as KeptTable};
+ghost use Rattle.model.specs.Model.{stated, judge, lawful as lawful_of, typed as typed_of, too_large, leaf, join_plan, choose_plan, apply_plan};
 ghost use Rattle.model.specs.Calls.{num_plan, truth_plan, input_plan};
 ghost use Rattle.generator.specs.Reads.{read, read_result};
 ghost use Rattle.generator.specs.Standing.{Stands};
 ghost use Rattle.generator.specs.Planning.{Planned};
+ghost use Rattle.generator.specs.Plans.{Keeping};
 
 use crate::fault::GeneratorFault;
 use crate::plan::{Plan, Scope};
@@ -31,21 +32,22 @@ pub(crate) fn judge_size(size: u32) -> Result<u16, GeneratorFault>
 
 // The type, where a construct has one.
 pub(crate) fn judge_type(ty: Option<Ty>) -> Result<Ty, GeneratorFault>
-    ensures { read_result (λ t. t) result ≡ typed-of ty Ok }
+    ensures { read_result (λ t. t) result ≡ typed_of ty Ok }
 {
     ty.ok_or(GeneratorFault::WrongType)
 }
 
 // The operator of a number.
 fn judge_operator(number: u8) -> Result<Operator, GeneratorFault>
-    ensures { read_result (λ o. o) result ≡ lawful-of (operator-of number) Ok }
+    ensures { read_result (λ o. o) result ≡ lawful_of (operator_of number) Ok }
 {
     Operator::from_number(number).ok_or(GeneratorFault::BadArgument)
 }
 
 // A construct without parts, into a cell.
 fn plan_leaf(cell: u8, construct: Construct, base: Base) -> Result<Plan, GeneratorFault>
-    ensures { (code : Codes) (t : Kept-table) (x : Code) → meant code construct ≡ Some x → Planned code t (leaf (read code t) cell x (Ty.Plain base)) result }
+    ensures keeps { Keeping result }
+    ensures planned { (code : Codes) (t : KeptTable) (x : Code) → meant code construct ≡ Some x → Planned code t (leaf (read code t) cell x (Ty.Plain base)) result }
 {
     let to = slot(cell)?;
     Ok(Plan {
@@ -59,13 +61,15 @@ fn plan_leaf(cell: u8, construct: Construct, base: Base) -> Result<Plan, Generat
 }
 
 pub(crate) fn plan_num(cell: u8, value: i32) -> Result<Plan, GeneratorFault>
-    ensures { (code : Codes) (t : Kept-table) → Planned code t (num_plan (read code t) cell value) result }
+    ensures keeps { Keeping result }
+    ensures planned { (code : Codes) (t : KeptTable) → Planned code t (num_plan (read code t) cell value) result }
 {
     plan_leaf(cell, Construct::Number(value), Base::Number)
 }
 
 pub(crate) fn plan_truth(cell: u8, truth: u8) -> Result<Plan, GeneratorFault>
-    ensures { (code : Codes) (t : Kept-table) → Planned code t (truth_plan (read code t) cell truth) result }
+    ensures keeps { Keeping result }
+    ensures planned { (code : Codes) (t : KeptTable) → Planned code t (truth_plan (read code t) cell truth) result }
 {
     if truth > 1 {
         return Err(GeneratorFault::BadArgument);
@@ -74,7 +78,8 @@ pub(crate) fn plan_truth(cell: u8, truth: u8) -> Result<Plan, GeneratorFault>
 }
 
 pub(crate) fn plan_input(cell: u8, input: u8) -> Result<Plan, GeneratorFault>
-    ensures { (code : Codes) (t : Kept-table) → Planned code t (input_plan (read code t) cell input) result }
+    ensures keeps { Keeping result }
+    ensures planned { (code : Codes) (t : KeptTable) → Planned code t (input_plan (read code t) cell input) result }
 {
     if input > 7 {
         return Err(GeneratorFault::BadArgument);
@@ -90,7 +95,8 @@ impl Table {
         left: u8,
         right: u8,
     ) -> Result<Plan, GeneratorFault>
-        ensures { (code : Codes) → Stands code self.now → Planned code self.now (join_plan stated (read code self.now) cell operator left right) result }
+        ensures keeps { Keeping result }
+        ensures planned { (code : Codes) → Stands code self.now → Planned code self.now (join_plan stated (read code self.now) cell operator left right) result }
     {
         let to = slot(cell)?;
         let operator = judge_operator(operator)?;
@@ -115,7 +121,8 @@ impl Table {
         then: u8,
         otherwise: u8,
     ) -> Result<Plan, GeneratorFault>
-        ensures { (code : Codes) → Stands code self.now → Planned code self.now (choose_plan stated (read code self.now) cell condition then otherwise) result }
+        ensures keeps { Keeping result }
+        ensures planned { (code : Codes) → Stands code self.now → Planned code self.now (choose_plan stated (read code self.now) cell condition then otherwise) result }
     {
         let to = slot(cell)?;
         let (x, y, z) = self.read_three(condition, then, otherwise)?;
@@ -139,7 +146,8 @@ impl Table {
         function: u8,
         argument: u8,
     ) -> Result<Plan, GeneratorFault>
-        ensures { (code : Codes) → Stands code self.now → Planned code self.now (apply_plan stated (read code self.now) cell function argument) result }
+        ensures keeps { Keeping result }
+        ensures planned { (code : Codes) → Stands code self.now → Planned code self.now (apply_plan stated (read code self.now) cell function argument) result }
     {
         let to = slot(cell)?;
         let (x, y) = self.read_two(function, argument)?;

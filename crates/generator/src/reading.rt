@@ -1,10 +1,11 @@
 // What a call reads of the table, and the refusals that it judges first.
-ghost use Rattle.std.specs.Prelude.{◌≡◌, ℕ, ◌<◌, length};
-ghost use Rattle.code.specs.Serials.{names as serials-of};
+ghost use Rattle.std.specs.Prelude.{◌≡◌, ℕ, ◌<◌, length, Ok, Err, slice_index_or};
+ghost use Rattle.code.specs.Serials.{names as serials_of};
 ghost use Rattle.store.specs.Meaning.{Codes};
+ghost use Rattle.generator.specs.declared.cell.Cell.TheVariants.{Empty};
 ghost use Rattle.model.specs.Model.{is_open, escaping};
 ghost use Rattle.generator.specs.Reads.{read, read_binders, read_result, read_piece};
-ghost use Rattle.generator.specs.Reading.{Slot, HeldAt, may_use, ReadOne, ReadTwo, ReadThree};
+ghost use Rattle.generator.specs.Reading.{Slot, slot_of, held, HeldAt, may_use, ReadOne, ReadTwo, ReadThree};
 
 use crate::binder::{Binder, Binding};
 use crate::cell::{Cell, Piece};
@@ -16,7 +17,8 @@ use store::search::find;
 
 // The place of a cell that a caller names by number.
 pub(crate) fn slot(cell: u8) -> Result<usize, GeneratorFault>
-    ensures { Slot cell result }
+    ensures place { Slot cell result }
+    ensures judged { read_result (λ n. n) result ≡ slot_of cell }
 {
     let at = cell as usize;
     if at < CELLS {
@@ -30,7 +32,8 @@ impl Table {
     // The code in a cell.
     pub(crate) fn read(&self, at: usize) -> Result<Piece, GeneratorFault>
         requires { at < 16 }
-        ensures { HeldAt self.now.cells at result }
+        ensures value { result ≡ held (slice_index_or self.now.cells at Empty) }
+        ensures cell { HeldAt self.now.cells at result }
     {
         let Cell::Full(piece) = self.cells[at] else {
             return Err(GeneratorFault::EmptyCell);
@@ -50,7 +53,7 @@ impl Table {
 
     // How many of the names are not open.
     pub(crate) fn escaping(&self, used: &Names) -> u8
-        ensures { (code : Codes) → result ≡ length (escaping (read_binders code self.now) (serials-of used.now)) }
+        ensures { (code : Codes) → result ≡ length (escaping (read_binders code self.now) (serials_of used.now)) }
     {
         let mut count = 0;
         for serial in used.as_slice() {

@@ -8,8 +8,8 @@ use Rattle.generator.specs.Reads.{read}
 use Rattle.generator.specs.Planning.{Planned}
 use Rattle.generator.proofs.planning.plan_input.Goals as goal
 
-pub returns : goal.returns
-returns c code t =
+pub returns-clause-planned : goal.returns-clause-planned
+returns-clause-planned c code t =
     let small : c.args.input < 8 = omega arith in
     subst (λ (b : Bool). Planned code t (judge b bad_argument (leaf (read code t) c.args.cell (Code.input c.args.input) (Plain Number))) c.plan_leaf.result) (sym (lt-ltb c.args.input 8 small))
-    (c.plan_leaf.ensures code t (Code.input c.args.input) refl)
+    (c.plan_leaf.ensures.planned code t (Code.input c.args.input) refl)

@@ -14,8 +14,8 @@ in_range : (z : ℤ) → mag z < 2 ^ 31 → in_range32 z ≡ true
 in_range (pos n) h = lt-ltb n (2 ^ 31) h
 in_range (negsuc n) h = lt-ltb n (2 ^ 31) h
 
-pub returns : goal.returns
-returns c code t =
+pub returns-clause-planned : goal.returns-clause-planned
+returns-clause-planned c code t =
     let z = c.args.value in
     subst (λ (b : Bool). Planned code t (judge b bad_argument (leaf (read code t) c.args.cell (Code.number z) (Plain Number))) c.plan_leaf.result) (sym (in_range z c.ranges.value.sfits))
-    (c.plan_leaf.ensures code t (Code.number z) (ap (λ (n : ℤ). Some (Code.number n)) (to_z-of_z {w = w32} {z = z} c.ranges.value)))
+    (c.plan_leaf.ensures.planned code t (Code.number z) (ap (λ (n : ℤ). Some (Code.number n)) (to_z-of_z {w = w32} {z = z} c.ranges.value)))

@@ -8,8 +8,8 @@ use Rattle.generator.specs.Reads.{read}
 use Rattle.generator.specs.Planning.{Planned}
 use Rattle.generator.proofs.planning.plan_truth.Goals as goal
 
-pub returns : goal.returns
-returns c code t =
+pub returns-clause-planned : goal.returns-clause-planned
+returns-clause-planned c code t =
     let small : c.args.truth < 2 = omega arith in
     subst (λ (b : Bool). Planned code t (judge b bad_argument (leaf (read code t) c.args.cell (Code.truth (eqb c.args.truth 1)) (Plain Truth))) c.plan_leaf.result) (sym (lt-ltb c.args.truth 2 small))
-    (c.plan_leaf.ensures code t (Code.truth (eqb c.args.truth 1)) refl)
+    (c.plan_leaf.ensures.planned code t (Code.truth (eqb c.args.truth 1)) refl)

@@ -15,41 +15,41 @@ use Rattle.generator.specs.Reads.{read, read_piece, read_fault}
 use Rattle.generator.specs.Planning.{Planned}
 use Rattle.generator.proofs.table.Table.plan_apply.Goals as goal
 
-pub returns-in_err-x : goal.returns-in_err-x
-returns-in_err-x c code stands =
+pub returns-in_err-x-clause-planned : goal.returns-in_err-x-clause-planned
+returns-in_err-x-clause-planned c code stands =
     let t = c.args.self.now in
     let st = read code t in
     let p = err_from_is_err_and c.from_residual-in_err-x.result c.from_residual-in_err-x.ensures.1 in
-    let to : slot_of c.args.cell ≡ Ok c.in_ok-to.to = sym c.in_ok-to.ensures.0 in
+    let to : slot_of c.args.cell ≡ Ok c.in_ok-to.to = sym c.in_ok-to.ensures.judged in
     let stops : used_two st c.args.function c.args.argument ≡ Err (read_fault c.in_err-x.field-0.0) = c.in_err-x.ensures code in
     subst (Planned code t (apply_plan stated st c.args.cell c.args.function c.args.argument)) (sym (p.1 ∙ ap Err p.2)) (apply_direct st c.args.cell c.args.function c.args.argument ∙ rw (to, stops) refl)
 
-pub returns-in_err-ty : goal.returns-in_err-ty
-returns-in_err-ty c code stands =
+pub returns-in_err-ty-clause-planned : goal.returns-in_err-ty-clause-planned
+returns-in_err-ty-clause-planned c code stands =
     let t = c.args.self.now in
     let st = read code t in
     let p = err_from_is_err_and c.from_residual-in_err-ty.result c.from_residual-in_err-ty.ensures.1 in
-    let to : slot_of c.args.cell ≡ Ok c.in_ok-to.to = sym c.in_ok-to.ensures.0 in
+    let to : slot_of c.args.cell ≡ Ok c.in_ok-to.to = sym c.in_ok-to.ensures.judged in
     let cells : used_two st c.args.function c.args.argument ≡ Ok (read_piece code c.in_ok-x.x, read_piece code c.in_ok-x.y) = c.in_ok-x.ensures.0 code in
     let stops : typed (applied c.in_ok-x.x.ty c.in_ok-x.y.ty) Ok ≡ Err (read_fault c.in_err-ty.field-0.0) = ap (λ (o : Option Ty). typed o Ok) (sym c.applied.ensures) ∙ sym c.in_err-ty.ensures in
     subst (Planned code t (apply_plan stated st c.args.cell c.args.function c.args.argument)) (sym (p.1 ∙ ap Err p.2)) (apply_direct st c.args.cell c.args.function c.args.argument ∙ rw (to, cells, stops) refl)
 
-pub returns-in_err-size : goal.returns-in_err-size
-returns-in_err-size c code stands =
+pub returns-in_err-size-clause-planned : goal.returns-in_err-size-clause-planned
+returns-in_err-size-clause-planned c code stands =
     let t = c.args.self.now in
     let st = read code t in
     let p = err_from_is_err_and c.from_residual-in_err-size.result c.from_residual-in_err-size.ensures.1 in
-    let to : slot_of c.args.cell ≡ Ok c.in_ok-to.to = sym c.in_ok-to.ensures.0 in
+    let to : slot_of c.args.cell ≡ Ok c.in_ok-to.to = sym c.in_ok-to.ensures.judged in
     let cells : used_two st c.args.function c.args.argument ≡ Ok (read_piece code c.in_ok-x.x, read_piece code c.in_ok-x.y) = c.in_ok-x.ensures.0 code in
     let kind : typed (applied c.in_ok-x.x.ty c.in_ok-x.y.ty) Ok ≡ Ok c.in_ok-ty.ty = ap (λ (o : Option Ty). typed o Ok) (sym c.applied.ensures) ∙ sym c.in_ok-ty.ensures in
     let stops : sized (1 + c.in_ok-x.x.size + c.in_ok-x.y.size) ≡ Err (read_fault c.in_err-size.field-0.0) = sym c.in_err-size.ensures in
     subst (Planned code t (apply_plan stated st c.args.cell c.args.function c.args.argument)) (sym (p.1 ∙ ap Err p.2)) (apply_direct st c.args.cell c.args.function c.args.argument ∙ rw (to, cells, kind, stops) refl)
 
-pub returns : goal.returns
-returns c code stands =
+pub returns-clause-planned : goal.returns-clause-planned
+returns-clause-planned c code stands =
     let t = c.args.self.now in
     let st = read code t in
-    let to : slot_of c.args.cell ≡ Ok c.in_ok-to.to = sym c.in_ok-to.ensures.0 in
+    let to : slot_of c.args.cell ≡ Ok c.in_ok-to.to = sym c.in_ok-to.ensures.judged in
     let cells : used_two st c.args.function c.args.argument ≡ Ok (read_piece code c.in_ok-x.x, read_piece code c.in_ok-x.y) = c.in_ok-x.ensures.0 code in
     let kind : typed (applied c.in_ok-x.x.ty c.in_ok-x.y.ty) Ok ≡ Ok c.in_ok-ty.ty = ap (λ (o : Option Ty). typed o Ok) (sym c.applied.ensures) ∙ sym c.in_ok-ty.ensures in
     let large : sized (1 + c.in_ok-x.x.size + c.in_ok-x.y.size) ≡ Ok c.in_ok-size.size = sym c.in_ok-size.ensures in
@@ -61,4 +61,4 @@ returns c code stands =
     let plans : apply_plan stated st c.args.cell c.args.function c.args.argument ≡ into st c.args.cell piece = apply_direct st c.args.cell c.args.function c.args.argument ∙ rw (to, cells, kind, large) refl in
     let few = (made_good code t (call.Apply c.args.cell c.args.function c.args.argument) _ stands (ap makes plans)).1.few in
     let all : names c.merge.result ≡ merge (names c.in_ok-x.x.names) (names c.in_ok-x.y.names) = merged _ (names c.in_ok-x.x.names) (names c.in_ok-x.y.names) (c.merge.ensures ascends-x ascends-y) few in
-    kept_sketched c.args.cell piece plans c.in_ok-to.ensures.1 refl (meant_two Code.apply known-x known-y) refl refl all
+    kept_sketched c.args.cell piece plans c.in_ok-to.ensures.place.0 refl (meant_two Code.apply known-x known-y) refl refl all

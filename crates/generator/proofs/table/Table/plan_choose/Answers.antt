@@ -17,41 +17,41 @@ use Rattle.generator.specs.Reads.{read, read_piece, read_fault}
 use Rattle.generator.specs.Planning.{Planned}
 use Rattle.generator.proofs.table.Table.plan_choose.Goals as goal
 
-pub returns-in_err-x : goal.returns-in_err-x
-returns-in_err-x c code stands =
+pub returns-in_err-x-clause-planned : goal.returns-in_err-x-clause-planned
+returns-in_err-x-clause-planned c code stands =
     let t = c.args.self.now in
     let st = read code t in
     let p = err_from_is_err_and c.from_residual-in_err-x.result c.from_residual-in_err-x.ensures.1 in
-    let to : slot_of c.args.cell ≡ Ok c.in_ok-to.to = sym c.in_ok-to.ensures.0 in
+    let to : slot_of c.args.cell ≡ Ok c.in_ok-to.to = sym c.in_ok-to.ensures.judged in
     let stops : used_three st c.args.condition c.args.then c.args.otherwise ≡ Err (read_fault c.in_err-x.field-0.0) = c.in_err-x.ensures code in
     subst (Planned code t (choose_plan stated st c.args.cell c.args.condition c.args.then c.args.otherwise)) (sym (p.1 ∙ ap Err p.2)) (choose_direct st c.args.cell c.args.condition c.args.then c.args.otherwise ∙ rw (to, stops) refl)
 
-pub returns-in_err-ty : goal.returns-in_err-ty
-returns-in_err-ty c code stands =
+pub returns-in_err-ty-clause-planned : goal.returns-in_err-ty-clause-planned
+returns-in_err-ty-clause-planned c code stands =
     let t = c.args.self.now in
     let st = read code t in
     let p = err_from_is_err_and c.from_residual-in_err-ty.result c.from_residual-in_err-ty.ensures.1 in
-    let to : slot_of c.args.cell ≡ Ok c.in_ok-to.to = sym c.in_ok-to.ensures.0 in
+    let to : slot_of c.args.cell ≡ Ok c.in_ok-to.to = sym c.in_ok-to.ensures.judged in
     let cells : used_three st c.args.condition c.args.then c.args.otherwise ≡ Ok (read_piece code c.in_ok-x.x, read_piece code c.in_ok-x.y, read_piece code c.in_ok-x.z) = c.in_ok-x.ensures.0 code in
     let stops : typed (chosen c.in_ok-x.x.ty c.in_ok-x.y.ty c.in_ok-x.z.ty) Ok ≡ Err (read_fault c.in_err-ty.field-0.0) = ap (λ (o : Option Ty). typed o Ok) (sym c.chosen.ensures) ∙ sym c.in_err-ty.ensures in
     subst (Planned code t (choose_plan stated st c.args.cell c.args.condition c.args.then c.args.otherwise)) (sym (p.1 ∙ ap Err p.2)) (choose_direct st c.args.cell c.args.condition c.args.then c.args.otherwise ∙ rw (to, cells, stops) refl)
 
-pub returns-in_err-size : goal.returns-in_err-size
-returns-in_err-size c code stands =
+pub returns-in_err-size-clause-planned : goal.returns-in_err-size-clause-planned
+returns-in_err-size-clause-planned c code stands =
     let t = c.args.self.now in
     let st = read code t in
     let p = err_from_is_err_and c.from_residual-in_err-size.result c.from_residual-in_err-size.ensures.1 in
-    let to : slot_of c.args.cell ≡ Ok c.in_ok-to.to = sym c.in_ok-to.ensures.0 in
+    let to : slot_of c.args.cell ≡ Ok c.in_ok-to.to = sym c.in_ok-to.ensures.judged in
     let cells : used_three st c.args.condition c.args.then c.args.otherwise ≡ Ok (read_piece code c.in_ok-x.x, read_piece code c.in_ok-x.y, read_piece code c.in_ok-x.z) = c.in_ok-x.ensures.0 code in
     let kind : typed (chosen c.in_ok-x.x.ty c.in_ok-x.y.ty c.in_ok-x.z.ty) Ok ≡ Ok c.in_ok-ty.ty = ap (λ (o : Option Ty). typed o Ok) (sym c.chosen.ensures) ∙ sym c.in_ok-ty.ensures in
     let stops : sized (1 + c.in_ok-x.x.size + c.in_ok-x.y.size + c.in_ok-x.z.size) ≡ Err (read_fault c.in_err-size.field-0.0) = sym c.in_err-size.ensures in
     subst (Planned code t (choose_plan stated st c.args.cell c.args.condition c.args.then c.args.otherwise)) (sym (p.1 ∙ ap Err p.2)) (choose_direct st c.args.cell c.args.condition c.args.then c.args.otherwise ∙ rw (to, cells, kind, stops) refl)
 
-pub returns : goal.returns
-returns c code stands =
+pub returns-clause-planned : goal.returns-clause-planned
+returns-clause-planned c code stands =
     let t = c.args.self.now in
     let st = read code t in
-    let to : slot_of c.args.cell ≡ Ok c.in_ok-to.to = sym c.in_ok-to.ensures.0 in
+    let to : slot_of c.args.cell ≡ Ok c.in_ok-to.to = sym c.in_ok-to.ensures.judged in
     let cells : used_three st c.args.condition c.args.then c.args.otherwise ≡ Ok (read_piece code c.in_ok-x.x, read_piece code c.in_ok-x.y, read_piece code c.in_ok-x.z) = c.in_ok-x.ensures.0 code in
     let kind : typed (chosen c.in_ok-x.x.ty c.in_ok-x.y.ty c.in_ok-x.z.ty) Ok ≡ Ok c.in_ok-ty.ty = ap (λ (o : Option Ty). typed o Ok) (sym c.chosen.ensures) ∙ sym c.in_ok-ty.ensures in
     let large : sized (1 + c.in_ok-x.x.size + c.in_ok-x.y.size + c.in_ok-x.z.size) ≡ Ok c.in_ok-size.size = sym c.in_ok-size.ensures in
@@ -68,4 +68,4 @@ returns c code stands =
     let ascends = subst (Ascending 0) (sym tail) (ascending_merge 0 (names c.in_ok-x.y.names) (names c.in_ok-x.z.names) ascends-y ascends-z) in
     let all : names c.merge-names.result ≡ merge (names c.in_ok-x.x.names) (merge (names c.in_ok-x.y.names) (names c.in_ok-x.z.names)) =
     merged _ (names c.in_ok-x.x.names) (merge (names c.in_ok-x.y.names) (names c.in_ok-x.z.names)) (c.merge-names.ensures ascends-x ascends ∙ ap (λ (l : List ℕ). take 16 (merge (names c.in_ok-x.x.names) l)) tail) few in
-    kept_sketched c.args.cell piece plans c.in_ok-to.ensures.1 refl (meant_three Code.choose known-x known-y known-z) refl refl all
+    kept_sketched c.args.cell piece plans c.in_ok-to.ensures.place.0 refl (meant_three Code.choose known-x known-y known-z) refl refl all
