@@ -16,8 +16,8 @@ returns-in_default-from_byte c =
     let e = read_unknown at.script.now _ at.place c.rest.ensures none in
     record { value = sym (ap read_value e); after = sym (ap (read_place at.place) e); script = refl }
 
-pub returns-then-body_length : goal.returns-then-body_length
-returns-then-body_length c =
+pub returns-then-body-length : goal.returns-then-body-length
+returns-then-body-length c =
     let at = c.args.self.now in
     let e = read_short at.script.now _ at.place c.rest.ensures c.in-Some.kind c.in-Some.ensures (omega arith) in
     record { value = sym (ap read_value e); after = sym (ap (read_place at.place) e); script = refl }
@@ -25,7 +25,7 @@ returns-then-body_length c =
 pub invariant_of-self : goal.invariant_of-self
 invariant_of-self c =
     let at = c.args.self.now in
-    (omega (arith, fits at.script.now _ at.place c.rest.ensures _ (omega (arith, ltb-false)) c.if-body_length.false), tt)
+    record { within = omega (arith, fits at.script.now _ at.place c.rest.ensures _ (omega (arith, ltb-false)) c.if-body-length.false) }
 
 pub returns : goal.returns
 returns c =
