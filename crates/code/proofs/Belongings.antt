@@ -4,11 +4,9 @@ use Rattle.std.proofs.lemmas.Bool.{cond_both, eqb-true, eqb-false, cases_eq}
 use Rattle.std.proofs.lemmas.Fmt.{decimal_injective}
 use Rattle.code.specs.Members.{In, Among, first, later, Nearest, here, past}
 use Rattle.code.specs.Code.{Code, size}
-use Rattle.code.specs.Code
 use Rattle.code.specs.Names.{merge, without, free}
 use Rattle.code.specs.Text.{name, number_of, spelled}
 use Rattle.code.specs.Belong.{Belong, NamesBelong, named}
-use Rattle.code.specs.Belong
 use Rattle.code.proofs.NameLists.{in_none, in_cons, first_at, merge_left, merge_right, without_keeps}
 
 -- two binders whose names are equal have as many binders around them

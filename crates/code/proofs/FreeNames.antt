@@ -1,7 +1,6 @@
 -- The free names of a code: their list is ascending, and its members are just the names that stand free.
 use Rattle.std.proofs.Common.{ℕ, inl, inr, ⊎_elim, arith}
 use Rattle.code.specs.Code.{Code}
-use Rattle.code.specs.Code
 use Rattle.code.specs.Members.{In}
 use Rattle.code.specs.Names.{merge, without, free, Ascending}
 use Rattle.code.specs.Exact.{StandsFree, NamesExact}

@@ -11,7 +11,6 @@ use Rattle.code.specs.declared.operator.Operator.TheVariants.{Add, Subtract, Mul
 use Rattle.code.specs.declared.types.Base.{Base}
 use Rattle.code.specs.declared.types.Base.TheVariants.{Number, Truth}
 use Rattle.code.specs.Code.{Code, size, ranged, in_range32}
-use Rattle.code.specs.Code
 use Rattle.code.specs.Text.{Spelled, sign, letter, word, name, number_of, spelled, flat, text, between}
 use Rattle.code.specs.Text
 

@@ -8,7 +8,6 @@ use Rattle.code.specs.declared.types.Base.TheVariants.{Number, Truth}
 use Rattle.code.specs.declared.types.Ty.{Ty}
 use Rattle.code.specs.declared.types.Ty.TheVariants.{Plain, Function}
 use Rattle.code.specs.Code.{Code}
-use Rattle.code.specs.Code
 use Rattle.code.specs.Members.{In, first, Nearest, here, past}
 use Rattle.code.specs.Names.{merge, without, free}
 use Rattle.code.specs.Typing.{Scope, type_in, type_of, then, takes, gives, same_base, same_type, joined, chosen, applied, abstracted}

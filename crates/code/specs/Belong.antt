@@ -4,7 +4,6 @@ use Rattle.code.specs.declared.operator.Operator.{Operator}
 use Rattle.code.specs.declared.types.Base.{Base}
 use Rattle.code.specs.Members.{Among, Nearest}
 use Rattle.code.specs.Code.{Code, size}
-use Rattle.code.specs.Code
 use Rattle.code.specs.Names.{free, Closed}
 use Rattle.code.specs.Text.{Spelled, name, spelled}
 use Rattle.code.specs.Text

@@ -7,7 +7,6 @@ use Rattle.code.specs.declared.types.Ty.{Ty}
 use Rattle.code.specs.declared.types.Ty.TheVariants.{Plain, Function}
 use Rattle.code.specs.Members.{In, Nearest}
 use Rattle.code.specs.Code.{Code}
-use Rattle.code.specs.Code
 use Rattle.code.specs.Names.{free, Ascending}
 use Rattle.code.specs.Typing.{Scope, type_in, type_of, takes, gives}
 

@@ -1,5 +1,5 @@
 -- Members of lists.
-use Rattle.std.specs.Prelude.{◌≡◌, List, [], ◌∷◌, ◌≢◌}
+use Rattle.std.specs.Prelude.{List, ◌∷◌, ◌≢◌}
 
 -- x stands in the list
 pub data In {A : Type 0} (x : A) : List A → Type 0 where

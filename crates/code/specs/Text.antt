@@ -6,7 +6,6 @@ use Rattle.code.specs.declared.operator.Operator.TheVariants.{Add, Subtract, Mul
 use Rattle.code.specs.declared.types.Base.{Base}
 use Rattle.code.specs.declared.types.Base.TheVariants.{Number, Truth}
 use Rattle.code.specs.Code.{Code}
-use Rattle.code.specs.Code
 
 abbrev pub sign : Operator → List ℕ
 sign Add = codes "+"

@@ -7,7 +7,6 @@ use Rattle.code.specs.declared.types.Base.TheVariants.{Number, Truth}
 use Rattle.code.specs.declared.types.Ty.{Ty}
 use Rattle.code.specs.declared.types.Ty.TheVariants.{Plain, Function}
 use Rattle.code.specs.Code.{Code}
-use Rattle.code.specs.Code
 
 abbrev pub takes : Operator → Base
 takes Add = Number

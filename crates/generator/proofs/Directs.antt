@@ -1,13 +1,12 @@
 -- The definition's plans, as judgements one after another in the order of the code.
-use Rattle.std.proofs.Common.{◌≡◌, ℕ, ◌+◌, Bool, true, false, ◌&&◌, eqb, ltb, leb, length, Some, None, Ok, Err, Option, Result, refl, ◌∙◌}
+use Rattle.std.proofs.Common.{◌≡◌, ℕ, ◌+◌, Bool, true, false, ◌&&◌, eqb, ltb, leb, length, Some, None, Ok, Option, Result, refl, ◌∙◌}
 use Rattle.code.specs.declared.operator.Operator.{Operator}
-use Rattle.code.specs.declared.types.Base.{Base}
 use Rattle.code.specs.declared.types.Ty.{Ty}
 use Rattle.code.specs.Code
 use Rattle.code.specs.Names.{merge}
 use Rattle.code.specs.Numbers.{operator, base}
 use Rattle.code.specs.Typing.{joined, chosen, applied}
-use Rattle.model.specs.Model.{State, Piece, parameter, bound, Plan, Fault, escaped, bad_argument, too_large, judge, judged, full, typed, lawful, usable, cell, escaping, into, stated, opened, close_latest, join_plan, choose_plan, apply_plan, fun_plan, let_plan, close_plan, print_plan}
+use Rattle.model.specs.Model.{State, Piece, parameter, bound, Plan, Fault, escaped, bad_argument, too_large, judge, judged, full, typed, lawful, usable, cell, escaping, into, stated, opened, close_latest, join_plan, choose_plan, apply_plan, fun_plan, let_plan, close_plan}
 use Rattle.generator.specs.Reading.{and_then, slot_of, held_in, may_use, used_one, used_two, used_three}
 
 abbrev passes : Result (Unit {0}) Fault

@@ -1,5 +1,5 @@
 -- Judgements one after another, and the cells of the state read from a table.
-use Rattle.std.proofs.Common.{◌≡◌, ℕ, suc, List, [], ◌∷◌, map, get_or, Some, None, Ok, Err, Option, refl, ap, ◌∙◌}
+use Rattle.std.proofs.Common.{◌≡◌, ℕ, suc, List, [], ◌∷◌, map, get_or, None, Ok, Err, Option, refl, ap, ◌∙◌}
 use Rattle.store.specs.Meaning.{Codes}
 use Rattle.generator.specs.declared.cell.Cell.{Cell}
 use Rattle.generator.specs.declared.cell.Cell.TheVariants.{Empty, Full}

@@ -1,17 +1,14 @@
 -- The open binders and marks of a table, the latest first.
-use Rattle.std.proofs.Common.{◌≡◌, ℕ, suc, ◌+◌, ◌-◌, ◌<◌, ◌≤◌, Bool, true, false, leb, List, [], ◌∷◌, ◌++◌, map, reverse, length, get_or, take, set, Ok, Err, Result, sym, refl, ap, ◌∙◌, subst, arith}
+use Rattle.std.proofs.Common.{◌≡◌, ℕ, ◌+◌, ◌-◌, ◌<◌, Bool, true, false, leb, List, [], ◌∷◌, ◌++◌, map, reverse, length, get_or, take, set, refl, ap, ◌∙◌, subst, arith}
 use Rattle.std.proofs.lemmas.List.{length-map, length-reverse, length-take-le, take_more, take_more_set, reverse-append}
-use Rattle.code.specs.declared.types.Base.TheVariants.{Number}
 use Rattle.store.specs.Meaning.{Codes}
 use Rattle.generator.specs.declared.binder.Binder.{Binder as Opened}
-use Rattle.generator.specs.declared.binder.Binding.TheVariants.{Parameter, Bound}
 use Rattle.generator.specs.declared.table.Table.{Table}
 use Rattle.model.specs.Model.{State, Piece, Binder, Plan, Fault, plain, no_binder, judge, stated, closed_with, close_latest}
 use Rattle.model.specs.Model
-use Rattle.generator.specs.Reads.{read, read_binder, read_binders, read_marks}
+use Rattle.generator.specs.Reads.{read_binder, read_binders}
 use Rattle.generator.specs.Reading.{and_then}
-use Rattle.generator.specs.Standing.{Each, BinderKnown, Whole}
-use Rattle.generator.specs.Planning.{but_latest}
+use Rattle.generator.specs.Standing.{Each, Whole}
 use Rattle.generator.specs.Latest.{no_opening, one_of, latest_in, latest_of}
 
 map_push : {A B : Type 0} (f : A → B) (xs : List A) (x : A) → map f (xs ++ (x ∷ [])) ≡ map f xs ++ (f x ∷ [])

@@ -1,8 +1,7 @@
 -- Plans of the table that are the definition's.
-use Rattle.std.proofs.Common.{◌≡◌, ℕ, suc, ◌≤◌, cond, eqb, ltb, List, [], ◌∷◌, length, get_or, take, Some, None, Ok, Err, Option, Result, sym, refl, ap, ◌∙◌, subst, arith}
+use Rattle.std.proofs.Common.{◌≡◌, ℕ, suc, ◌≤◌, cond, eqb, ltb, List, [], ◌∷◌, length, get_or, take, Some, Ok, Option, Result, sym, ap, ◌∙◌, subst, arith}
 use Rattle.std.proofs.lemmas.List.{take_all}
 use Rattle.std.proofs.lemmas.Bool.{cond_both}
-use Rattle.code.specs.declared.names.Names.{Names}
 use Rattle.code.specs.declared.types.Ty.{Ty}
 use Rattle.code.specs.Code.{Code}
 use Rattle.code.specs.Names.{insert, merge, Ascending}
@@ -17,7 +16,7 @@ use Rattle.generator.specs.declared.plan.Scope.TheVariants.{Kept}
 use Rattle.generator.specs.declared.table.Table.{Table}
 use Rattle.model.specs.declared.call.Call.{Call}
 use Rattle.model.specs.Model.{Piece, Plan, Fault, into, stated}
-use Rattle.model.specs.Calls.{Deed, makes, sheet, deed}
+use Rattle.model.specs.Calls.{makes, sheet, deed}
 use Rattle.model.proofs.Pieces.{names_ascending}
 use Rattle.model.proofs.Sound.{SoundDeed, Made, sound_deed, grown_sound}
 use Rattle.generator.specs.Reads.{known_code, read, read_cell, read_piece}

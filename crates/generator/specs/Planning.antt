@@ -1,5 +1,5 @@
 -- What a plan of the table is by the definition, read through the store.
-use Rattle.std.specs.Prelude.{◌≡◌, ℕ, ◌+◌, List, [], ◌∷◌, map, reverse, Some, None, Ok, Err, Option, Result, slice_set}
+use Rattle.std.specs.Prelude.{◌≡◌, ℕ, ◌+◌, List, [], ◌∷◌, map, Some, None, Ok, Err, Option, Result, slice_set}
 use Rattle.code.specs.Code.{Code}
 use Rattle.code.specs.Serials.{names}
 use Rattle.store.specs.Meaning.{Codes, meant, wanted}

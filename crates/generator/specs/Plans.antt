@@ -1,5 +1,5 @@
 -- When a table has room for what a plan does to its binders.
-use Rattle.std.specs.Prelude.{◌≡◌, ℕ, ◌<◌, Ok, Err, Result}
+use Rattle.std.specs.Prelude.{◌≡◌, ◌<◌, Ok, Err, Result}
 use Rattle.generator.specs.declared.binder.Binder.{Binder}
 use Rattle.generator.specs.declared.fault.GeneratorFault.{GeneratorFault}
 use Rattle.generator.specs.declared.plan.Plan.{Plan}

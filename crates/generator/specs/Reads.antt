@@ -1,7 +1,6 @@
 -- A generator read through its store: each handle as the code that it stands for.
 use Rattle.std.specs.Prelude.{ℕ, List, map, reverse, take, pos, Some, None, Ok, Err, Option, Result}
 use Rattle.code.specs.Code.{Code}
-use Rattle.code.specs.Code
 use Rattle.code.specs.Serials.{names}
 use Rattle.store.specs.Meaning.{Codes}
 use Rattle.store.specs.declared.meaning.StoreFault.{StoreFault}

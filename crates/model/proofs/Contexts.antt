@@ -6,7 +6,6 @@ use Rattle.code.specs.declared.types.Base.TheVariants.{Number, Truth}
 use Rattle.code.specs.declared.types.Ty.{Ty}
 use Rattle.code.specs.declared.types.Ty.TheVariants.{Plain, Function}
 use Rattle.code.specs.Code.{Code, ranged}
-use Rattle.code.specs.Code
 use Rattle.code.specs.Names.{merge, without, free}
 use Rattle.code.specs.Typing.{Scope, type_of, then, applied, abstracted}
 use Rattle.code.specs.Members.{In, first, later}

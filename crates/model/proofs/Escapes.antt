@@ -4,7 +4,6 @@ use Rattle.std.proofs.lemmas.Bool.{ltb-true, eqb-true, eqb-false, and_parts}
 use Rattle.code.specs.declared.operator.Operator.{Operator}
 use Rattle.code.specs.declared.types.Ty.{Ty}
 use Rattle.code.specs.Code.{Code, in_range32}
-use Rattle.code.specs.Code
 use Rattle.code.specs.Names.{merge}
 use Rattle.code.specs.Text.{text}
 use Rattle.code.specs.Typing.{joined, chosen, applied, abstracted}

@@ -8,7 +8,6 @@ use Rattle.code.specs.declared.types.Base.TheVariants.{Number, Truth}
 use Rattle.code.specs.declared.types.Ty.{Ty}
 use Rattle.code.specs.declared.types.Ty.TheVariants.{Plain, Function}
 use Rattle.code.specs.Code.{Code}
-use Rattle.code.specs.Code
 use Rattle.code.specs.Names.{merge, without}
 use Rattle.code.specs.Text.{text}
 use Rattle.code.specs.Typing.{applied}

@@ -5,7 +5,6 @@ use Rattle.code.specs.declared.operator.Operator.{Operator}
 use Rattle.code.specs.declared.types.Base.{Base}
 use Rattle.code.specs.declared.types.Ty.{Ty}
 use Rattle.code.specs.Code.{Code, size, ranged}
-use Rattle.code.specs.Code
 use Rattle.code.specs.Names.{merge, without, free, Ascending}
 use Rattle.code.specs.Typing.{Scope, type_of, type_in, then, joined, chosen, applied, abstracted}
 use Rattle.code.specs.Members.{In}

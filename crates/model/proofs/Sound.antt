@@ -5,7 +5,6 @@ use Rattle.code.specs.declared.types.Base.TheVariants.{Number, Truth}
 use Rattle.code.specs.declared.types.Ty.{Ty}
 use Rattle.code.specs.declared.types.Ty.TheVariants.{Plain}
 use Rattle.code.specs.Code.{Code, in_range32}
-use Rattle.code.specs.Code
 use Rattle.code.specs.Numbers.{operator, base}
 use Rattle.model.specs.Model
 use Rattle.model.specs.Model.{State, Piece, Binder, parameter, bound, serial, Plan, Refusal, Fault, plain, stated, cell, put, judged, judge, full, typed, lawful, usable, escaping, opened, closed_with, close_latest, finish_mark, leave_mark, print_plan}

@@ -6,7 +6,6 @@ use Rattle.code.specs.declared.types.Ty.{Ty}
 use Rattle.code.specs.declared.types.Ty.TheVariants.{Plain}
 use Rattle.code.specs.Members.{In}
 use Rattle.code.specs.Code.{Code, in_range32, ranged}
-use Rattle.code.specs.Code
 use Rattle.code.specs.Names.{free}
 use Rattle.code.specs.Text.{spelled, text}
 use Rattle.code.specs.Typing.{Scope, type_of, then}

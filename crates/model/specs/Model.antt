@@ -1,12 +1,11 @@
 -- The generator as its users see it: cells that hold codes, open binders, marks, the next serial.
-use Rattle.std.specs.Prelude.{ℕ, ◌+◌, ◌-◌, Bool, true, false, cond, ◌&&◌, List, [], ◌∷◌, ◌++◌, length, drop, set, replicate, Some, None, Ok, Err, Option, Result, ◌==◌, nat_le, nat_lt, slice_index_or, slice_set}
+use Rattle.std.specs.Prelude.{ℕ, ◌+◌, ◌-◌, Bool, true, false, cond, ◌&&◌, List, [], ◌∷◌, ◌++◌, length, drop, replicate, Some, None, Ok, Err, Option, Result, ◌==◌, nat_le, nat_lt, slice_index_or, slice_set}
 use Rattle.code.specs.declared.types.Base.{Base}
 use Rattle.code.specs.declared.types.Ty.{Ty}
 use Rattle.code.specs.declared.types.Ty.TheVariants.{Plain}
 use Rattle.code.specs.declared.refusal.Refusal.TheVariants as refusals
 use Rattle.code.specs.Numbers.{operator, base, refusal_number}
 use Rattle.code.specs.Code.{Code}
-use Rattle.code.specs.Code
 use Rattle.code.specs.Typing.{joined, chosen, applied, abstracted}
 use Rattle.code.specs.Names.{merge, without}
 use Rattle.code.specs.Text.{text}

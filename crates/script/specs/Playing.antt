@@ -1,5 +1,5 @@
 -- How a cursor goes on.
-use Rattle.std.specs.Prelude.{◌≡◌, ℕ, ◌<◌, Ok, Err, Result}
+use Rattle.std.specs.Prelude.{◌≡◌, ◌<◌, Ok, Err, Result}
 use Rattle.model.specs.declared.call.Call.{Call}
 use Rattle.script.specs.declared.cursor.Cursor.{Cursor}
 use Rattle.script.specs.declared.step.Misread.{Misread}

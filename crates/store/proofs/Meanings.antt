@@ -1,11 +1,9 @@
 -- What a construct means where more handles are known.
-use Rattle.std.proofs.Common.{◌≡◌, Bool, true, false, cond, leb, Some, None, Ok, Err, Option, Result, sym, refl, ap, ◌∙◌, rules}
+use Rattle.std.proofs.Common.{◌≡◌, Bool, true, false, cond, leb, Some, None, Ok, Err, Option, sym, refl, ap, ◌∙◌, rules}
 use Rattle.code.specs.declared.construct.Handle.{Handle}
 use Rattle.code.specs.declared.construct.Construct.{Construct}
 use Rattle.code.specs.declared.construct.Construct.TheVariants.{Number, Truth, Input, Variable, Join, Choose, Apply, Function, Let}
 use Rattle.code.specs.Code.{Code, size}
-use Rattle.code.specs.Code
-use Rattle.store.specs.declared.meaning.StoreFault.{StoreFault}
 use Rattle.store.specs.declared.meaning.StoreFault.TheVariants.{BadArgument, TooLarge}
 use Rattle.store.specs.Meaning.{Codes, over1, over2, over3, meant, in_range, sized, wanted}
 

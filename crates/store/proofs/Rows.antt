@@ -1,13 +1,12 @@
 -- What a row more does to what the handles stand for.
-use Rattle.std.proofs.Common.{◌≡◌, ℕ, ◌+◌, ◌<◌, ◌≤◌, ◌⊎◌, List, [], ◌∷◌, ◌++◌, length, get_or, take, drop, Some, None, Option, sym, refl, ap, ◌∙◌, inl, inr, append_assoc, arith, rules}
-use Rattle.std.proofs.lemmas.List.{get_or_append_left, get_or_push, get_or_past, length_push, append-nil, take_more, take-append-drop, length-take-le}
-use Rattle.std.proofs.lemmas.Bool.{cases_lt}
+use Rattle.std.proofs.Common.{◌≡◌, ℕ, ◌+◌, ◌<◌, List, [], ◌∷◌, ◌++◌, length, get_or, take, drop, Some, None, Option, sym, refl, ap, ◌∙◌, append_assoc, arith}
+use Rattle.std.proofs.lemmas.List.{get_or_append_left, get_or_push, length_push, append-nil, take_more, take-append-drop, length-take-le}
 use Rattle.code.specs.declared.construct.Handle.{Handle}
 use Rattle.code.specs.Code.{Code}
 use Rattle.store.specs.declared.row.Row.{Row}
 use Rattle.store.specs.Meaning.{meant}
 use Rattle.store.specs.Ledger.{at, onto, rows_code}
-use Rattle.store.specs.LedgerLaw.{length-onto, code_past, known_within}
+use Rattle.store.specs.LedgerLaw.{length-onto, known_within}
 use Rattle.store.proofs.Meanings.{KnowsMore, meant_more}
 
 onto_push : (cs : List (Option Code)) (rows : List Row) (row : Row) → onto cs (rows ++ (row ∷ [])) ≡ onto cs rows ++ (meant (at (onto cs rows)) row.construct ∷ [])

@@ -1,19 +1,17 @@
 -- The sizes that stand in sound rows are those of the codes.
-use Rattle.std.proofs.Common.{◌≡◌, ℕ, ◌+◌, ◌<◌, ◌≤◌, Bool, true, false, cond, ltb, leb, ◌⊎◌, length, get_or, take, Some, None, Ok, Err, Option, Result, sym, refl, ap, ◌∙◌, subst, inl, inr, arith, rules}
+use Rattle.std.proofs.Common.{◌≡◌, ℕ, ◌+◌, ◌<◌, ◌≤◌, Bool, true, false, cond, ltb, leb, ◌⊎◌, length, get_or, take, Some, None, Ok, Err, Option, sym, refl, ap, ◌∙◌, inl, inr, arith, rules}
 use Rattle.std.proofs.lemmas.List.{get_or-take, length-take-le}
 use Rattle.std.proofs.lemmas.Bool.{cases_lt, lt-ltb, le-ltb, cond-true, cond-false}
 use Rattle.code.specs.declared.construct.Handle.{Handle}
 use Rattle.code.specs.declared.construct.Construct.{Construct}
 use Rattle.code.specs.declared.construct.Construct.TheVariants.{Number, Truth, Input, Variable, Join, Choose, Apply, Function, Let}
 use Rattle.code.specs.Code.{Code, size}
-use Rattle.code.specs.Code
 use Rattle.store.specs.declared.row.Row.{Row}
 use Rattle.store.specs.declared.ledger.Ledger.{Ledger}
-use Rattle.store.specs.declared.meaning.StoreFault.{StoreFault}
 use Rattle.store.specs.declared.meaning.StoreFault.TheVariants.{BadArgument, TooLarge}
 use Rattle.store.specs.Meaning.{over1, over2, over3, meant, in_range, sized, wanted}
 use Rattle.store.specs.Ledger.{code_of, Sound, blank, size_of_row, plus1, plus2, plus3, row_size, asked_size}
-use Rattle.store.specs.LedgerLaw.{code_past, known_within}
+use Rattle.store.specs.LedgerLaw.{code_past}
 
 abbrev pub size_of : Option Code → Option ℕ
 size_of None = None

@@ -1,5 +1,5 @@
 -- The law that a ledger owes as a store, proved: it knows nothing past its rows, and so no code that is too large.
-use Rattle.std.specs.Prelude.{◌≡◌, ℕ, ◌+◌, ◌<◌, ◌≤◌, List, [], ◌∷◌, ◌++◌, length, get_or, take, Some, None, Option, unwrap_or, suc}
+use Rattle.std.specs.Prelude.{◌≡◌, ℕ, ◌+◌, ◌<◌, ◌≤◌, List, [], ◌∷◌, ◌++◌, length, take, Some, None, Option, unwrap_or, suc}
 use Rattle.std.proofs.Common.{sym, ap, ◌∙◌, subst, ◌⊎◌, inl, inr}
 use Rattle.std.proofs.Math.Nat.{zero-add, add-zero, add_assoc, suc-add}
 use Rattle.std.proofs.lemmas.List.{get_or_past, length_push, length-take-le}
@@ -10,7 +10,7 @@ use Rattle.code.specs.Code.{Code, size}
 use Rattle.store.specs.declared.row.Row.{Row}
 use Rattle.store.specs.declared.ledger.Ledger.{Ledger}
 use Rattle.store.specs.Meaning.{meant}
-use Rattle.store.specs.Ledger.{at, onto, rows_code, code_of, Sound, RowSound}
+use Rattle.store.specs.Ledger.{at, onto, rows_code, code_of, Sound}
 
 -- a code for each row, after those at hand
 pub length-onto : (cs : List (Option Code)) (rows : List Row) → length (onto cs rows) ≡ length cs + length rows

@@ -6,7 +6,6 @@ use Rattle.code.specs.declared.construct.Handle.{Handle}
 use Rattle.code.specs.declared.construct.Construct.{Construct}
 use Rattle.code.specs.declared.construct.Construct.TheVariants.{Number, Truth, Input, Variable, Join, Choose, Apply, Function, Let}
 use Rattle.code.specs.Code.{Code, size}
-use Rattle.code.specs.Code
 use Rattle.store.specs.declared.meaning.StoreFault.{StoreFault}
 use Rattle.store.specs.declared.meaning.StoreFault.TheVariants.{BadArgument, TooLarge, NoRoom}
 

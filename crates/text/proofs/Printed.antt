@@ -1,5 +1,5 @@
 -- The text of a handle's code by its parts, and the names around them.
-use Rattle.std.proofs.Common.{◌≡◌, ℕ, ◌+◌, ◌<◌, ◌≤◌, Bool, true, false, cond, eqb, List, [], ◌∷◌, ◌++◌, reverse, length, get_or, take, set, Some, None, codes, Option, sym, refl, ap, ◌∙◌, arith}
+use Rattle.std.proofs.Common.{◌≡◌, ℕ, ◌+◌, ◌<◌, ◌≤◌, Bool, false, cond, eqb, List, [], ◌∷◌, ◌++◌, reverse, length, get_or, take, set, Some, None, codes, Option, sym, refl, ap, ◌∙◌, arith}
 use mathlib.Core.List.{reverse-append}
 use Rattle.std.proofs.lemmas.List.{take_more, take_more_set, take-take, take-set, length-take, length-reverse}
 use Rattle.std.proofs.lemmas.Bool.{eq-eqb}
@@ -9,7 +9,6 @@ use Rattle.code.specs.declared.construct.Handle.{Handle}
 use Rattle.code.specs.declared.construct.Construct.{Construct}
 use Rattle.code.specs.declared.construct.Construct.TheVariants.{Join, Choose, Apply, Function, Let}
 use Rattle.code.specs.Code.{Code, size}
-use Rattle.code.specs.Code
 use Rattle.code.specs.Text.{text, name, number_of, between, fun_head, let_head}
 use Rattle.store.specs.Meaning.{Codes, meant, over1, over2, over3, Looked}
 use Rattle.text.specs.Printing.{nearest_first, text_of, size_of}

@@ -1,5 +1,5 @@
 -- The text that is printed for a handle's code, and the names around a place.
-use Rattle.std.specs.Prelude.{◌≡◌, ℕ, ◌+◌, ◌≤◌, List, [], reverse, length, take, Some, None, Option}
+use Rattle.std.specs.Prelude.{ℕ, ◌+◌, ◌≤◌, List, [], reverse, length, take, Some, None, Option}
 use Rattle.code.specs.Code.{Code, size}
 use Rattle.code.specs.Text.{text}
 

@@ -1,4 +1,4 @@
-use Rattle.std.proofs.Common.{arith, rules}
+use Rattle.std.proofs.Common.{arith}
 use Rattle.code.proofs.Merges.{step_left_only, step_right_only, step_left, step_right, step_both}
 use Rattle.code.proofs.merging.least.Goals as goal
 

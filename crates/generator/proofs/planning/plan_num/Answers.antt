@@ -1,8 +1,7 @@
-use Rattle.std.proofs.Common.{◌≡◌, ℕ, ◌^◌, ◌<◌, Bool, true, ℤ, pos, negsuc, Some, Option, sym, ap, subst, to_z-of_z, w32}
+use Rattle.std.proofs.Common.{◌≡◌, ◌^◌, ◌<◌, Bool, true, ℤ, pos, negsuc, Some, sym, ap, subst, to_z-of_z, w32}
 use lib.Signed.{mag}
 use Rattle.std.proofs.lemmas.Bool.{lt-ltb}
 use Rattle.code.specs.Code.{Code, in_range32}
-use Rattle.code.specs.Code
 use Rattle.code.specs.declared.types.Base.TheVariants.{Number}
 use Rattle.code.specs.declared.types.Ty.TheVariants.{Plain}
 use Rattle.model.specs.Model.{bad_argument, judge, leaf}

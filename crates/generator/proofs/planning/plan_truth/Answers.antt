@@ -1,4 +1,4 @@
-use Rattle.std.proofs.Common.{◌≡◌, ◌<◌, Bool, eqb, sym, refl, subst, arith}
+use Rattle.std.proofs.Common.{◌<◌, Bool, eqb, sym, refl, subst, arith}
 use Rattle.std.proofs.lemmas.Bool.{lt-ltb}
 use Rattle.code.specs.Code
 use Rattle.code.specs.declared.types.Base.TheVariants.{Truth}

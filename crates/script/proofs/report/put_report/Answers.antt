@@ -1,4 +1,4 @@
-use Rattle.std.proofs.Common.{◌≡◌, ℕ, List, [], ◌∷◌, ◌++◌, codes, decimal, Option, sym, ap, ◌∙◌}
+use Rattle.std.proofs.Common.{ℕ, [], ◌∷◌, ◌++◌, codes, decimal, Option, sym, ap, ◌∙◌}
 use Rattle.code.specs.Numbers.{refusal_number}
 use Rattle.text.proofs.Laying.{laid_then, laid_same}
 use Rattle.script.specs.declared.fault.RunFault.{RunFault}

@@ -1,5 +1,4 @@
-use Rattle.std.proofs.Common.{◌≡◌, ◌<◌, ◌≤◌, length, take, Option, refl, ◌∙◌, arith}
-use Rattle.code.specs.Code.{Code}
+use Rattle.std.proofs.Common.{◌<◌, ◌≤◌, length, refl, ◌∙◌, arith}
 use Rattle.text.specs.Printing.{nearest_first}
 use Rattle.text.proofs.Laying.{laid_then, laid_same}
 use Rattle.text.proofs.Printed.{nearest_length, nearest_kept, known_size, under, inner, join_text, choose_text, apply_text, function_text, let_text}

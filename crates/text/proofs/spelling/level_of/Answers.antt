@@ -1,4 +1,4 @@
-use Rattle.std.proofs.Common.{◌≡◌, ◌+◌, ◌-◌, ◌<◌, length, sym, ap, ◌∙◌, arith, ne_eqb}
+use Rattle.std.proofs.Common.{◌≡◌, ◌+◌, ◌-◌, sym, ap, ◌∙◌, arith, ne_eqb}
 use Rattle.code.specs.Text.{number_of}
 use Rattle.text.specs.Printing.{nearest_first}
 use Rattle.text.proofs.Printed.{number_here, number_past}

@@ -1,4 +1,4 @@
-use Rattle.std.proofs.Common.{List, [], ◌∷◌, ◌++◌, codes, ap, ◌∙◌}
+use Rattle.std.proofs.Common.{List, ◌++◌, codes, ap}
 use Rattle.code.specs.Text.{name}
 use Rattle.text.proofs.Laying.{laid_then, laid_same}
 use Rattle.text.proofs.spelling.put_fun_head.Goals as goal

@@ -1,4 +1,4 @@
-use Rattle.std.proofs.Common.{◌≤◌, sym, ◌∙◌, subst, arith}
+use Rattle.std.proofs.Common.{sym, ◌∙◌, subst, arith}
 use Rattle.std.proofs.lemmas.List.{length-set}
 use Rattle.code.specs.Names.{Ascending}
 use Rattle.code.proofs.Merges.{written_more, written_full, written_few, counted, merged_as, step_none}

@@ -1,4 +1,4 @@
-use Rattle.std.proofs.Common.{◌≤◌, drop}
+use Rattle.std.proofs.Common.{drop}
 use Rattle.code.specs.Names.{without}
 use Rattle.code.proofs.Merges.{Written}
 use Rattle.code.proofs.names.Names.without.Given as goal
