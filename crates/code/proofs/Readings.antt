@@ -2,7 +2,7 @@
 use Rattle.std.proofs.Common.{◌≡◌, ℕ, suc, ◌+◌, ◌-◌, ◌%◌, ◌^◌, ◌<◌, ◌≤◌, Bool, true, false, cond, ◌&&◌, ◌||◌, eqb, ltb, List, [], ◌∷◌, ◌++◌, length, get_or, drop, ℤ, pos, negsuc, codes, decimal, sym, refl, ap, ◌∙◌, subst, append_assoc, append-nil, arith}
 use Rattle.std.specs.Fmt.{signed_decimal}
 use Rattle.std.specs.Str.Parse.{digits_value}
-use Rattle.std.specs.List.{AllByRecursion as All}
+use Rattle.std.specs.List.{AllByRecursion}
 use Rattle.std.proofs.lemmas.Bool.{cond_both, cond-true, cond-false, ne_eqb, ltb-true, and_parts, and_left, or_from}
 use Rattle.std.proofs.ByRecursion.{All-push, All-weaker}
 use Rattle.std.proofs.lemmas.Fmt.{decimal_by_steps, decimal_is_IsNumeral, decimal_nonempty}
@@ -32,7 +32,7 @@ Ends [] = Unit {0}
 Ends (b ∷ bs) = ends b ≡ true
 
 abbrev Inner : List ℕ → Type 0
-Inner w = All (λ (b : ℕ). ends b ≡ false) w
+Inner w = AllByRecursion (λ (b : ℕ). ends b ≡ false) w
 
 word_read : (w r : List ℕ) → Inner w → Ends r → (word_of (w ++ r) ≡ w) × (past_word (w ++ r) ≡ r)
 word_read [] [] a e = (refl, refl)
@@ -45,8 +45,8 @@ word_read (x ∷ w) r a e =
 abbrev Digit : ℕ → Type 0
 Digit b = (48 ≤ b) × (b ≤ 57)
 
-all_digits : (n : ℕ) → n < 2 ^ 64 → All Digit (decimal n)
-all_digits = decimal_by_steps (λ _ ds. All Digit ds) (λ n l. ((omega arith, omega arith), tt)) (λ n ds l h. All-push Digit ds (48 + n % 10) h (omega arith, omega arith))
+all_digits : (n : ℕ) → n < 2 ^ 64 → AllByRecursion Digit (decimal n)
+all_digits = decimal_by_steps (λ _ ds. AllByRecursion Digit ds) (λ n l. ((omega arith, omega arith), tt)) (λ n ds l h. All-push Digit ds (48 + n % 10) h (omega arith, omega arith))
 
 digit_inner : (b : ℕ) → Digit b → ends b ≡ false
 digit_inner b d =
@@ -60,7 +60,7 @@ inner_decimal n l = All-weaker Digit (λ (b : ℕ). ends b ≡ false) digit_inne
 first_digit : (n : ℕ) → n < 2 ^ 64 → (d : ℕ) × (ds : List ℕ) × (decimal n ≡ d ∷ ds) × Digit d
 first_digit n l = go (decimal n) refl (all_digits n l) (decimal_nonempty n l)
   where
-    go : (xs : List ℕ) → decimal n ≡ xs → All Digit xs → 0 < length xs → (d : ℕ) × (ds : List ℕ) × (decimal n ≡ d ∷ ds) × Digit d
+    go : (xs : List ℕ) → decimal n ≡ xs → AllByRecursion Digit xs → 0 < length xs → (d : ℕ) × (ds : List ℕ) × (decimal n ≡ d ∷ ds) × Digit d
     go [] e a some = absurd (omega arith)
     go (d ∷ ds) e a some = (d, ds, e, a.0)
 

@@ -1,6 +1,5 @@
 -- The bytes that a step is written with, and that it is read back from them.
-use Rattle.std.specs.Prelude.{◌≡◌, ℕ, ◌+◌, ◌-◌, ◌/◌, ◌%◌, ◌^◌, ◌<◌, true, List, [], ◌∷◌, ◌++◌, length, take, drop, ℤ, pos, negsuc}
-use Rattle.std.specs.List.{AllByRecursion as All}
+use Rattle.std.specs.Prelude.{◌≡◌, ℕ, ◌+◌, ◌-◌, ◌/◌, ◌%◌, ◌^◌, ◌<◌, true, All, List, [], ◌∷◌, ◌++◌, length, take, drop, ℤ, pos, negsuc}
 use Rattle.code.specs.Code.{in_range32}
 use Rattle.model.specs.declared.call.Call.TheVariants as call
 use Rattle.script.specs.declared.step.Step.{Step}
