@@ -45,7 +45,7 @@ fn judge_operator(number: u8) -> Result<Operator, GeneratorFault>
 }
 
 // A construct without parts, into a cell.
-fn plan_leaf(cell: u8, construct: Construct, base: Base) -> Result<Plan, GeneratorFault>
+pub(crate) fn plan_leaf(cell: u8, construct: Construct, base: Base) -> Result<Plan, GeneratorFault>
     ensures keeps { Keeping result }
     ensures planned { (code : Codes) (t : KeptTable) (x : Code) → meant code construct ≡ Some x → Planned code t (leaf (read code t) cell x (Ty.Plain base)) result }
 {

@@ -6,7 +6,7 @@ use Rattle.code.specs.Code.{Code}
 use Rattle.store.specs.declared.row.Row.{Row}
 use Rattle.store.specs.Meaning.{meant}
 use Rattle.store.specs.Ledger.{at, onto, rows_code}
-use Rattle.store.specs.LedgerLaw.{length-onto, known_within}
+use Rattle.store.specs.LedgerLaw.{length_onto, known_within}
 use Rattle.store.proofs.Meanings.{KnowsMore, meant_more}
 
 onto_push : (cs : List (Option Code)) (rows : List Row) (row : Row) → onto cs (rows ++ (row ∷ [])) ≡ onto cs rows ++ (meant (at (onto cs rows)) row.construct ∷ [])
@@ -24,14 +24,14 @@ pub code_older : (rows : List Row) (row : Row) (h : Handle) → h.number < lengt
 unfolding rows_code
 code_older rows row h lt =
     ap (λ (cs : List (Option Code)). at cs h) (onto_push [] rows row)
-    ∙ get_or_append_left (onto [] rows) (meant (at (onto [] rows)) row.construct ∷ []) None h.number (omega (arith, length-onto [] rows))
+    ∙ get_or_append_left (onto [] rows) (meant (at (onto [] rows)) row.construct ∷ []) None h.number (omega (arith, length_onto [] rows))
 
 -- the new handle stands for the new row
 pub code_newest : (rows : List Row) (row : Row) (h : Handle) → h.number ≡ length rows → rows_code (rows ++ (row ∷ [])) h ≡ meant (rows_code rows) row.construct
 unfolding rows_code
 code_newest rows row h is =
     ap (λ (cs : List (Option Code)). at cs h) (onto_push [] rows row)
-    ∙ get_or_push (onto [] rows) (meant (at (onto [] rows)) row.construct) None h.number (omega (arith, length-onto [] rows))
+    ∙ get_or_push (onto [] rows) (meant (at (onto [] rows)) row.construct) None h.number (omega (arith, length_onto [] rows))
 
 pub code_kept : (rows : List Row) (row : Row) → KnowsMore (rows_code rows) (rows_code (rows ++ (row ∷ [])))
 code_kept rows row h c e = code_older rows row h (known_within rows h c e) ∙ e

@@ -13,11 +13,11 @@ use Rattle.store.specs.Meaning.{meant}
 use Rattle.store.specs.Ledger.{at, onto, rows_code, code_of, Sound}
 
 -- a code for each row, after those at hand
-pub length-onto : (cs : List (Option Code)) (rows : List Row) → length (onto cs rows) ≡ length cs + length rows
+pub length_onto : (cs : List (Option Code)) (rows : List Row) → length (onto cs rows) ≡ length cs + length rows
 unfolding onto
-length-onto cs [] = sym (add-zero (length cs))
-length-onto cs (r ∷ rows) =
-    length-onto (cs ++ (meant (at cs) r.construct ∷ [])) rows
+length_onto cs [] = sym (add-zero (length cs))
+length_onto cs (r ∷ rows) =
+    length_onto (cs ++ (meant (at cs) r.construct ∷ [])) rows
     ∙ ap (λ (n : ℕ). n + length rows) (length_push cs (meant (at cs) r.construct))
     ∙ add_assoc (length cs) 1 (length rows)
     ∙ ap (λ (n : ℕ). length cs + n) (suc-add 0 (length rows) ∙ ap (λ (n : ℕ). suc n) (zero-add (length rows)))
@@ -27,7 +27,7 @@ pub code_past : (rows : List Row) (h : Handle) → length rows ≤ h.number → 
 unfolding rows_code
 code_past rows h le =
     get_or_past (onto [] rows) h.number None
-    (subst (λ (n : ℕ). n ≤ h.number) (sym (length-onto [] rows ∙ zero-add (length rows))) le)
+    (subst (λ (n : ℕ). n ≤ h.number) (sym (length_onto [] rows ∙ zero-add (length rows))) le)
 
 -- what is known stands in the rows
 pub known_within : (rows : List Row) (h : Handle) (c : Code) → rows_code rows h ≡ Some c → h.number < length rows
