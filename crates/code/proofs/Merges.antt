@@ -12,12 +12,12 @@ few_without xs s few = omega (arith, without_shorter s xs)
 ascending_after : (a : List ℕ) (i : ℕ) → Ascending 0 a → i < length a → Ascending (suc (get_or a i 0)) (drop (i + 1) a)
 ascending_after a i up lt = (subst (Ascending 0) (drop_more a i 0 lt) (ascending_drop 0 i a up)).1
 
-module _ (a b : List ℕ) (i j : ℕ) (up-a : Ascending 0 a) where
+module _ (a b : List ℕ) (i j : ℕ) (up_a : Ascending 0 a) where
   -- the right list has ended
   pub step_left_only : i < length a → length b ≤ j → merge (drop i a) (drop j b) ≡ get_or a i 0 ∷ merge (drop (i + 1) a) (drop j b)
   step_left_only lt end =
-      ap (merge (drop i a)) (drop_all j b end) ∙ merge_none 0 (drop i a) (ascending_drop 0 i a up-a) ∙ drop_more a i 0 lt
-      ∙ ap (λ (xs : List ℕ). get_or a i 0 ∷ xs) (sym (ap (merge (drop (i + 1) a)) (drop_all j b end) ∙ merge_none 0 (drop (i + 1) a) (ascending_drop 0 (i + 1) a up-a)))
+      ap (merge (drop i a)) (drop_all j b end) ∙ merge_none 0 (drop i a) (ascending_drop 0 i a up_a) ∙ drop_more a i 0 lt
+      ∙ ap (λ (xs : List ℕ). get_or a i 0 ∷ xs) (sym (ap (merge (drop (i + 1) a)) (drop_all j b end) ∙ merge_none 0 (drop (i + 1) a) (ascending_drop 0 (i + 1) a up_a)))
 
   -- the left list has ended
   pub step_right_only : length a ≤ i → j < length b → merge (drop i a) (drop j b) ≡ get_or b j 0 ∷ merge (drop i a) (drop (j + 1) b)
@@ -27,11 +27,11 @@ module _ (a b : List ℕ) (i j : ℕ) (up-a : Ascending 0 a) where
 
   -- the left list has the lower serial
   pub step_left : Ascending 0 b → i < length a → j < length b → get_or a i 0 < get_or b j 0 → merge (drop i a) (drop j b) ≡ get_or a i 0 ∷ merge (drop (i + 1) a) (drop j b)
-  step_left up-b la lb less =
+  step_left up_b la lb less =
       let ea = drop_more a i 0 la in
       let eb = drop_more b j 0 lb in
       (λ k. merge (ea k) (eb k))
-      ∙ merge_less 0 (get_or a i 0) (get_or b j 0) (drop (i + 1) a) (drop (j + 1) b) less (ascending_after a i up-a la) (subst (Ascending 0) eb (ascending_drop 0 j b up-b))
+      ∙ merge_less 0 (get_or a i 0) (get_or b j 0) (drop (i + 1) a) (drop (j + 1) b) less (ascending_after a i up_a la) (subst (Ascending 0) eb (ascending_drop 0 j b up_b))
       ∙ ap (λ (ys : List ℕ). get_or a i 0 ∷ merge (drop (i + 1) a) ys) (sym eb)
 
   -- the right list has the lower serial
@@ -39,18 +39,18 @@ module _ (a b : List ℕ) (i j : ℕ) (up-a : Ascending 0 a) where
   step_right la lb less =
       let ea = drop_more a i 0 la in
       ap (merge (drop i a)) (drop_more b j 0 lb)
-      ∙ merge_more (get_or b j 0) (drop i a) (drop (j + 1) b) (subst (Ascending (suc (get_or b j 0))) (sym ea) (less, ascending_after a i up-a la))
+      ∙ merge_more (get_or b j 0) (drop i a) (drop (j + 1) b) (subst (Ascending (suc (get_or b j 0))) (sym ea) (less, ascending_after a i up_a la))
 
   -- both have the same serial
   pub step_both : i < length a → j < length b → get_or a i 0 ≡ get_or b j 0 → merge (drop i a) (drop j b) ≡ get_or a i 0 ∷ merge (drop (i + 1) a) (drop (j + 1) b)
   step_both la lb same =
       let ea = drop_more a i 0 la in
       let eb = drop_more b j 0 lb ∙ ap (λ (y : ℕ). y ∷ drop (j + 1) b) (sym same) in
-      (λ k. merge (ea k) (eb k)) ∙ merge_same (get_or a i 0) (drop (i + 1) a) (drop (j + 1) b) (ascending_after a i up-a la)
+      (λ k. merge (ea k) (eb k)) ∙ merge_same (get_or a i 0) (drop (i + 1) a) (drop (j + 1) b) (ascending_after a i up_a la)
 
 -- both lists have ended
 pub step_none : (a b : List ℕ) (i j : ℕ) → length a ≤ i → length b ≤ j → merge (drop i a) (drop j b) ≡ []
-step_none a b i j end-a end-b = λ k. merge (drop_all i a end-a k) (drop_all j b end-b k)
+step_none a b i j end_a end_b = λ k. merge (drop_all i a end_a k) (drop_all j b end_b k)
 
 -- a name that is taken out, and one that stays
 pub step_out : (s : ℕ) (xs : List ℕ) (i : ℕ) → i < length xs → get_or xs i 0 ≡ s → without s (drop i xs) ≡ without s (drop (i + 1) xs)

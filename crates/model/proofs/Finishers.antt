@@ -116,11 +116,11 @@ module _ (n i j : ℕ) (li : i < 16) (lj : j < 16) (apart : i ≢ j) where
       let x : Piece = record { code = c; type = Function q r; size = w.size; names = w.names } in
       let with_literal : List (Option Piece) = set cells j (Some lit) in
       let sixteen : length with_literal ≡ 16 = length-set cells j (Some lit) ∙ w.sixteen in
-      let put-literal = literal_call (state cells bs ms n) j lj q in
+      let put_literal = literal_call (state cells bs ms n) j lj q in
       let l : j < length cells = omega (arith, w.sixteen) in
       record {
         cells = set with_literal i (Some (record { code = Code.apply c (literal q); type = Plain r; size = 1 + w.size + 1; names = merge w.names [] }));
-        reaches = step put-literal.0 put-literal.1
+        reaches = step put_literal.0 put_literal.1
             (step (call.Apply i i j)
             (apply_call (state with_literal bs ms n) i li j x lit (Plain r) lj (get_or-set_other cells j i (Some lit) None apart ∙ w.holds) (get_or-set_same cells j (Some lit) None l) w.all_open (λ s k. absurd (in_none k)) (applies q r))
             done);

@@ -1,5 +1,5 @@
 -- What the rows of a ledger mean: each row by the rows before it.
-use Rattle.std.specs.Prelude.{◌≡◌, ℕ, ◌+◌, ◌-◌, ◌<◌, ◌≤◌, min, cond, List, [], ◌∷◌, ◌++◌, length, get_or, take, pos, Some, None, Option, nat_lt, slice_index_or}
+use Rattle.std.specs.Prelude.{◌≡◌, ℕ, ◌+◌, ◌-◌, ◌<◌, ◌≤◌, min, cond, List, [], ◌∷◌, ◌++◌, length, take, pos, Some, None, Option, nat_lt, slice_index_or}
 use Rattle.code.specs.declared.construct.Handle.{Handle}
 use Rattle.code.specs.declared.construct.Construct.{Construct}
 use Rattle.code.specs.declared.construct.Construct.TheVariants.{Number, Truth, Input, Variable, Join, Choose, Apply, Function, Let}
@@ -37,7 +37,7 @@ blank = record { construct = Number (pos 0); size = 0 }
 pub record RowSound (rows : List Row) (k : ℕ) : Type 0 where
   pub code : Code
   pub stands : rows_code rows (record { number = k }) ≡ Some code
-  pub sizes : (get_or rows k blank).size ≡ size code
+  pub sizes : (slice_index_or rows k blank).size ≡ size code
   pub small : size code ≤ 4096
 
 pub record Sound (s : Ledger) : Type 0 where
@@ -53,7 +53,7 @@ pub record Fresh (s : Ledger) (rows : List Row) : Type 0 where
 
 -- the size that stands in a row, none past the used rows
 abbrev pub size_of_row : List Row → ℕ → Handle → Option ℕ
-size_of_row rows used h = cond (nat_lt h.number used) (Some (get_or rows h.number blank).size) None
+size_of_row rows used h = cond (nat_lt h.number used) (Some (slice_index_or rows h.number blank).size) None
 
 abbrev pub plus1 : Option ℕ → Option ℕ
 plus1 None = None

@@ -1,5 +1,5 @@
 -- What a sharing layer remembers: the last 64 requests that were granted below, the oldest first.
-use Rattle.std.specs.Prelude.{◌≡◌, ℕ, ◌+◌, ◌-◌, ◌%◌, ◌<◌, ◌≤◌, min, List, [], ◌∷◌, ◌++◌, length, get_or, take, drop, pos, Some, None, Ok, Option, ◌≢◌, slice_index_or}
+use Rattle.std.specs.Prelude.{◌≡◌, ℕ, ◌+◌, ◌-◌, ◌%◌, ◌<◌, ◌≤◌, min, List, [], ◌∷◌, ◌++◌, length, take, drop, pos, Some, None, Ok, Option, ◌≢◌, slice_index_or}
 use Rattle.code.specs.declared.construct.Handle.{Handle}
 use Rattle.code.specs.declared.construct.Construct.{Construct}
 use Rattle.code.specs.declared.construct.Construct.TheVariants.{Number}
@@ -25,8 +25,8 @@ remembered m = turned m.next (take m.count m.entries)
 
 -- the handle of the entry with the request, or that no entry has it
 abbrev pub Asked : Memory → Construct → Option Handle → Type 0
-Asked m x None = (k : ℕ) → k < m.count → (get_or m.entries k blank).request ≢ x
-Asked m x (Some h) = (k : ℕ) × (k < m.count) × ((get_or m.entries k blank).request ≡ x) × ((get_or m.entries k blank).handle ≡ h)
+Asked m x None = (k : ℕ) → k < m.count → (slice_index_or m.entries k blank).request ≢ x
+Asked m x (Some h) = (k : ℕ) × (k < m.count) × ((slice_index_or m.entries k blank).request ≡ x) × ((slice_index_or m.entries k blank).handle ≡ h)
 
 -- the last n of a list
 abbrev pub latest : {A : Type 0} → ℕ → List A → List A
@@ -43,7 +43,7 @@ pub record Noted (m : Memory) (x : Construct) (h : Handle) (n : Memory) : Type 0
   pub order : InOrder n
   pub count : n.count ≡ min (m.count + 1) 64
   pub next : n.next ≡ (m.next + 1) % 64
-  pub newest : get_or n.entries m.next blank ≡ record { request = x; handle = h }
+  pub newest : slice_index_or n.entries m.next blank ≡ record { request = x; handle = h }
   pub others : (k : ℕ) → (k ≢ m.next) → slice_index_or n.entries k blank ≡ slice_index_or m.entries k blank
   pub remembers : remembered n ≡ latest 64 (remembered m ++ (record { request = x; handle = h } ∷ []))
 
@@ -56,4 +56,4 @@ pub record EmptyMemory (m : Memory) : Type 0 where
 -- each entry's handle stands for what its request asks for
 pub record Remembers (code : Codes) (m : Memory) : Type 0 where
   pub order : InOrder m
-  pub meant : (k : ℕ) → k < m.count → (c : Code) × (wanted code (get_or m.entries k blank).request ≡ Ok c) × (code (get_or m.entries k blank).handle ≡ Some c)
+  pub meant : (k : ℕ) → k < m.count → (c : Code) × (wanted code (slice_index_or m.entries k blank).request ≡ Ok c) × (code (slice_index_or m.entries k blank).handle ≡ Some c)

@@ -55,17 +55,17 @@ returns-clause-planned c code stands =
     let cells : used_three st c.args.condition c.args.then c.args.otherwise ≡ Ok (read_piece code c.in_ok-x.x, read_piece code c.in_ok-x.y, read_piece code c.in_ok-x.z) = c.in_ok-x.ensures.0 code in
     let kind : typed (chosen c.in_ok-x.x.ty c.in_ok-x.y.ty c.in_ok-x.z.ty) Ok ≡ Ok c.in_ok-ty.ty = ap (λ (o : Option Ty). typed o Ok) (sym c.chosen.ensures) ∙ sym c.in_ok-ty.ensures in
     let large : sized (1 + c.in_ok-x.x.size + c.in_ok-x.y.size + c.in_ok-x.z.size) ≡ Ok c.in_ok-size.size = sym c.in_ok-size.ensures in
-    let known-x = cell_known code t c.args.condition c.in_ok-x.x stands c.in_ok-x.ensures.1 in
-    let ascends-x = cell_ascending code t c.args.condition c.in_ok-x.x stands c.in_ok-x.ensures.1 in
-    let known-y = cell_known code t c.args.then c.in_ok-x.y stands c.in_ok-x.ensures.2 in
-    let ascends-y = cell_ascending code t c.args.then c.in_ok-x.y stands c.in_ok-x.ensures.2 in
-    let known-z = cell_known code t c.args.otherwise c.in_ok-x.z stands c.in_ok-x.ensures.3 in
-    let ascends-z = cell_ascending code t c.args.otherwise c.in_ok-x.z stands c.in_ok-x.ensures.3 in
+    let known_x = cell_known code t c.args.condition c.in_ok-x.x stands c.in_ok-x.ensures.1 in
+    let ascends_x = cell_ascending code t c.args.condition c.in_ok-x.x stands c.in_ok-x.ensures.1 in
+    let known_y = cell_known code t c.args.then c.in_ok-x.y stands c.in_ok-x.ensures.2 in
+    let ascends_y = cell_ascending code t c.args.then c.in_ok-x.y stands c.in_ok-x.ensures.2 in
+    let known_z = cell_known code t c.args.otherwise c.in_ok-x.z stands c.in_ok-x.ensures.3 in
+    let ascends_z = cell_ascending code t c.args.otherwise c.in_ok-x.z stands c.in_ok-x.ensures.3 in
     let piece : Piece = record { code = Code.choose (read_piece code c.in_ok-x.x).code (read_piece code c.in_ok-x.y).code (read_piece code c.in_ok-x.z).code; type = c.in_ok-ty.ty; size = c.in_ok-size.size; names = merge (names c.in_ok-x.x.names) (merge (names c.in_ok-x.y.names) (names c.in_ok-x.z.names)) } in
     let plans : choose_plan stated st c.args.cell c.args.condition c.args.then c.args.otherwise ≡ into st c.args.cell piece = choose_direct st c.args.cell c.args.condition c.args.then c.args.otherwise ∙ rw (to, cells, kind, large) refl in
     let few = (made_good code t (call.Choose c.args.cell c.args.condition c.args.then c.args.otherwise) _ stands (ap makes plans)).1.few in
-    let tail = merged _ (names c.in_ok-x.y.names) (names c.in_ok-x.z.names) (c.merge.ensures ascends-y ascends-z) (few_tail (names c.in_ok-x.x.names) (names c.in_ok-x.y.names) (names c.in_ok-x.z.names) few) in
-    let ascends = subst (Ascending 0) (sym tail) (ascending_merge 0 (names c.in_ok-x.y.names) (names c.in_ok-x.z.names) ascends-y ascends-z) in
+    let tail = merged _ (names c.in_ok-x.y.names) (names c.in_ok-x.z.names) (c.merge.ensures ascends_y ascends_z) (few_tail (names c.in_ok-x.x.names) (names c.in_ok-x.y.names) (names c.in_ok-x.z.names) few) in
+    let ascends = subst (Ascending 0) (sym tail) (ascending_merge 0 (names c.in_ok-x.y.names) (names c.in_ok-x.z.names) ascends_y ascends_z) in
     let all : names c.merge-names.result ≡ merge (names c.in_ok-x.x.names) (merge (names c.in_ok-x.y.names) (names c.in_ok-x.z.names)) =
-    merged _ (names c.in_ok-x.x.names) (merge (names c.in_ok-x.y.names) (names c.in_ok-x.z.names)) (c.merge-names.ensures ascends-x ascends ∙ ap (λ (l : List ℕ). take 16 (merge (names c.in_ok-x.x.names) l)) tail) few in
-    kept_sketched c.args.cell piece plans c.in_ok-to.ensures.place.0 refl (meant_three Code.choose known-x known-y known-z) refl refl all
+    merged _ (names c.in_ok-x.x.names) (merge (names c.in_ok-x.y.names) (names c.in_ok-x.z.names)) (c.merge-names.ensures ascends_x ascends ∙ ap (λ (l : List ℕ). take 16 (merge (names c.in_ok-x.x.names) l)) tail) few in
+    kept_sketched c.args.cell piece plans c.in_ok-to.ensures.place.0 refl (meant_three Code.choose known_x known_y known_z) refl refl all

@@ -58,12 +58,12 @@ returns-clause-planned c code stands =
     let cells : used_two st c.args.left c.args.right ≡ Ok (read_piece code c.in_ok-x.x, read_piece code c.in_ok-x.y) = c.in_ok-x.ensures.0 code in
     let kind : typed (joined c.in_ok-operator.operator c.in_ok-x.x.ty c.in_ok-x.y.ty) Ok ≡ Ok c.in_ok-ty.ty = ap (λ (o : Option Ty). typed o Ok) (sym c.joined.ensures) ∙ sym c.in_ok-ty.ensures in
     let large : sized (1 + c.in_ok-x.x.size + c.in_ok-x.y.size) ≡ Ok c.in_ok-size.size = sym c.in_ok-size.ensures in
-    let known-x = cell_known code t c.args.left c.in_ok-x.x stands c.in_ok-x.ensures.1 in
-    let ascends-x = cell_ascending code t c.args.left c.in_ok-x.x stands c.in_ok-x.ensures.1 in
-    let known-y = cell_known code t c.args.right c.in_ok-x.y stands c.in_ok-x.ensures.2 in
-    let ascends-y = cell_ascending code t c.args.right c.in_ok-x.y stands c.in_ok-x.ensures.2 in
+    let known_x = cell_known code t c.args.left c.in_ok-x.x stands c.in_ok-x.ensures.1 in
+    let ascends_x = cell_ascending code t c.args.left c.in_ok-x.x stands c.in_ok-x.ensures.1 in
+    let known_y = cell_known code t c.args.right c.in_ok-x.y stands c.in_ok-x.ensures.2 in
+    let ascends_y = cell_ascending code t c.args.right c.in_ok-x.y stands c.in_ok-x.ensures.2 in
     let piece : Piece = record { code = Code.join c.in_ok-operator.operator (read_piece code c.in_ok-x.x).code (read_piece code c.in_ok-x.y).code; type = c.in_ok-ty.ty; size = c.in_ok-size.size; names = merge (names c.in_ok-x.x.names) (names c.in_ok-x.y.names) } in
     let plans : join_plan stated st c.args.cell c.args.operator c.args.left c.args.right ≡ into st c.args.cell piece = join_direct st c.args.cell c.args.operator c.args.left c.args.right ∙ rw (to, op, cells, kind, large) refl in
     let few = (made_good code t (call.Join c.args.cell c.args.operator c.args.left c.args.right) _ stands (ap makes plans)).1.few in
-    let all : names c.merge.result ≡ merge (names c.in_ok-x.x.names) (names c.in_ok-x.y.names) = merged _ (names c.in_ok-x.x.names) (names c.in_ok-x.y.names) (c.merge.ensures ascends-x ascends-y) few in
-    kept_sketched c.args.cell piece plans c.in_ok-to.ensures.place.0 refl (meant_two (Code.join c.in_ok-operator.operator) known-x known-y) refl refl all
+    let all : names c.merge.result ≡ merge (names c.in_ok-x.x.names) (names c.in_ok-x.y.names) = merged _ (names c.in_ok-x.x.names) (names c.in_ok-x.y.names) (c.merge.ensures ascends_x ascends_y) few in
+    kept_sketched c.args.cell piece plans c.in_ok-to.ensures.place.0 refl (meant_two (Code.join c.in_ok-operator.operator) known_x known_y) refl refl all

@@ -12,27 +12,27 @@ returns-in_err-x c =
     let t = c.args.self.now in
     let p = err_from_is_err_and c.from_residual-in_err-x.result c.from_residual-in_err-x.ensures.1 in
     subst (ReadOne t c.args.cell) (sym (p.1 ∙ ap Err p.2)) λ code.
-    let slot-a : slot_of c.args.cell ≡ Ok c.in_ok-a.a = sym c.in_ok-a.ensures.judged in
+    let slot_a : slot_of c.args.cell ≡ Ok c.in_ok-a.a = sym c.in_ok-a.ensures.judged in
     let stops : held_in (read code t) c.in_ok-a.a ≡ Err (read_fault c.in_err-x.field-0.0) = held_none code t c.in_ok-a.a c.in_err-x.ensures.cell.1 ∙ ap (λ (f : GeneratorFault). Err (read_fault f)) (sym c.in_err-x.ensures.cell.0) in
-    rw (slot-a, stops) refl
+    rw (slot_a, stops) refl
 
 pub returns-in_err-judge_use : goal.returns-in_err-judge_use
 returns-in_err-judge_use c =
     let t = c.args.self.now in
     let p = err_from_is_err_and c.from_residual-in_err-judge_use.result c.from_residual-in_err-judge_use.ensures.1 in
     subst (ReadOne t c.args.cell) (sym (p.1 ∙ ap Err p.2)) λ code.
-    let slot-a : slot_of c.args.cell ≡ Ok c.in_ok-a.a = sym c.in_ok-a.ensures.judged in
-    let cell-x : held_in (read code t) c.in_ok-a.a ≡ Ok (read_piece code c.in_ok-x.x) = held_some code t c.in_ok-a.a c.in_ok-x.x c.in_ok-x.ensures.cell in
+    let slot_a : slot_of c.args.cell ≡ Ok c.in_ok-a.a = sym c.in_ok-a.ensures.judged in
+    let cell_x : held_in (read code t) c.in_ok-a.a ≡ Ok (read_piece code c.in_ok-x.x) = held_some code t c.in_ok-a.a c.in_ok-x.x c.in_ok-x.ensures.cell in
     let stops : may_use (read code t) c.in_ok-a.a (read_piece code c.in_ok-x.x) ≡ Err (read_fault c.in_err-judge_use.field-0.0) = sym (c.in_err-judge_use.ensures code) in
-    rw (slot-a, cell-x, stops) refl
+    rw (slot_a, cell_x, stops) refl
 
 pub returns : goal.returns
 returns c =
     let t = c.args.self.now in (
       λ code.
-          let slot-a : slot_of c.args.cell ≡ Ok c.in_ok-a.a = sym c.in_ok-a.ensures.judged in
-          let cell-x : held_in (read code t) c.in_ok-a.a ≡ Ok (read_piece code c.in_ok-x.x) = held_some code t c.in_ok-a.a c.in_ok-x.x c.in_ok-x.ensures.cell in
-          let use-x : may_use (read code t) c.in_ok-a.a (read_piece code c.in_ok-x.x) ≡ Ok tt = sym (c.in_ok-judge_use.ensures code) in
-          rw (slot-a, cell-x, use-x) refl,
+          let slot_a : slot_of c.args.cell ≡ Ok c.in_ok-a.a = sym c.in_ok-a.ensures.judged in
+          let cell_x : held_in (read code t) c.in_ok-a.a ≡ Ok (read_piece code c.in_ok-x.x) = held_some code t c.in_ok-a.a c.in_ok-x.x c.in_ok-x.ensures.cell in
+          let use_x : may_use (read code t) c.in_ok-a.a (read_piece code c.in_ok-x.x) ≡ Ok tt = sym (c.in_ok-judge_use.ensures code) in
+          rw (slot_a, cell_x, use_x) refl,
       ap (λ (i : ℕ). get_or t.cells i Empty) (sym c.in_ok-a.ensures.place.0) ∙ c.in_ok-x.ensures.cell,
     )
