@@ -1,4 +1,5 @@
 pub mod NameLists
+pub mod Layouts
 pub mod Merges
 pub mod FreeNames
 pub mod TypeRules

@@ -1,9 +1,10 @@
 -- A text is read back as the spelling that it is of, so no two spellings have one text.
-use Rattle.std.proofs.Common.{◌≡◌, ℕ, suc, ◌+◌, ◌-◌, ◌%◌, ◌^◌, ◌<◌, ◌≤◌, Bool, true, false, cond, ◌&&◌, ◌||◌, eqb, ltb, List, [], ◌∷◌, ◌++◌, length, get_or, drop, ℤ, pos, negsuc, codes, decimal, sym, refl, ap, ◌∙◌, subst, append_assoc, append-nil, arith}
+use Rattle.std.proofs.Common.{◌≡◌, ℕ, suc, ◌+◌, ◌-◌, ◌%◌, ◌^◌, ◌<◌, ◌≤◌, Bool, true, false, cond, ◌&&◌, ◌||◌, eqb, ltb, List, [], ◌∷◌, ◌++◌, length, get_or, drop, ℤ, pos, negsuc, codes, decimal, sym, refl, ap, ◌∙◌, append_assoc, append-nil, arith, rules}
 use Rattle.std.specs.Fmt.{signed_decimal}
 use Rattle.std.specs.Str.Parse.{digits_value}
 use Rattle.std.specs.List.{AllByRecursion}
-use Rattle.std.proofs.lemmas.Bool.{cond_both, cond-true, cond-false, ne_eqb, ltb-true, and_parts, and_left, or_from}
+use Rattle.std.proofs.lemmas.Bool.{cond-true, cond-false, ne_eqb, ltb-true, and_parts}
+use Rattle.std.proofs.lemmas.Bool.Decides.{nat_tests}
 use Rattle.std.proofs.ByRecursion.{All-push, All-weaker}
 use Rattle.std.proofs.lemmas.Fmt.{decimal_by_steps, decimal_is_IsNumeral, decimal_nonempty}
 use Rattle.code.specs.declared.operator.Operator.{Operator}
@@ -37,9 +38,7 @@ Inner w = AllByRecursion (λ (b : ℕ). ends b ≡ false) w
 word_read : (w r : List ℕ) → Inner w → Ends r → (word_of (w ++ r) ≡ w) × (past_word (w ++ r) ≡ r)
 word_read [] [] a e = (refl, refl)
 word_read [] (b ∷ r) a e = (cond-true (ends b) [] (b ∷ word_of r) e, cond-true (ends b) (b ∷ r) (past_word r) e)
-word_read (x ∷ w) r a e =
-    let h = word_read w r a.1 e in
-    (cond-false (ends x) [] (x ∷ word_of (w ++ r)) a.0 ∙ ap (λ (l : List ℕ). x ∷ l) h.0, cond-false (ends x) (x ∷ (w ++ r)) (past_word (w ++ r)) a.0 ∙ h.1)
+word_read (x ∷ w) r a e = grind (arith, nat_tests, a.0, word_read w r a.1 e)
 
 -- the bytes of a decimal
 abbrev Digit : ℕ → Type 0
@@ -49,9 +48,7 @@ all_digits : (n : ℕ) → n < 2 ^ 64 → AllByRecursion Digit (decimal n)
 all_digits = decimal_by_steps (λ _ ds. AllByRecursion Digit ds) (λ n l. ((omega arith, omega arith), tt)) (λ n ds l h. All-push Digit ds (48 + n % 10) h (omega arith, omega arith))
 
 digit_inner : (b : ℕ) → Digit b → ends b ≡ false
-digit_inner b d =
-    or_from (eqb b 32) (eqb b 41 || eqb b 58) (ne_eqb b 32 (λ e. omega (arith, d.0, d.1)))
-    (or_from (eqb b 41) (eqb b 58) (ne_eqb b 41 (λ e. omega (arith, d.0, d.1))) (ne_eqb b 58 (λ e. omega (arith, d.0, d.1))))
+digit_inner b d = grind (arith, nat_tests, d)
 
 inner_decimal : (n : ℕ) → n < 2 ^ 64 → Inner (decimal n)
 inner_decimal n l = All-weaker Digit (λ (b : ℕ). ends b ≡ false) digit_inner (decimal n) (all_digits n l)
@@ -89,10 +86,7 @@ atom w =
     (cond (eqb (get_or w 0 0) 45) (Text.number (negsuc (digits_value 10 (drop 1 w) - 1))) (Text.number (pos (digits_value 10 w)))))))
 
 atom_digit : (d : ℕ) (ds : List ℕ) → Digit d → atom (d ∷ ds) ≡ Text.number (pos (digits_value 10 (d ∷ ds)))
-atom_digit d ds h =
-    cond-false (eqb d 116) _ _ (ne_eqb d 116 (λ e. omega (arith, h.1))) ∙ cond-false (eqb d 102) _ _ (ne_eqb d 102 (λ e. omega (arith, h.1)))
-    ∙ cond-false (eqb d 105) _ _ (ne_eqb d 105 (λ e. omega (arith, h.1))) ∙ cond-false (eqb d 118) _ _ (ne_eqb d 118 (λ e. omega (arith, h.1)))
-    ∙ cond-false (eqb d 45) _ _ (ne_eqb d 45 (λ e. omega (arith, h.0)))
+atom_digit d ds h = grind (arith, nat_tests, h)
 
 atom_decimal : (n : ℕ) → n < 2 ^ 64 → atom (decimal n) ≡ Text.number (pos n)
 atom_decimal n l =
@@ -108,14 +102,13 @@ atom_signed (negsuc n) e =
     (ap (λ (m : ℕ). Text.number (negsuc m)) q, (refl, inner_decimal (suc n) (omega arith)))
 
 atom_word : (b : Bool) → (atom (word b) ≡ Text.truth b) × Inner (word b)
-atom_word true = (refl, (refl, (refl, (refl, (refl, tt)))))
-atom_word false = (refl, (refl, (refl, (refl, (refl, (refl, tt))))))
+atom_word b = search rules
 
 inner_name : (v : List ℕ) → Numbered v → Inner v
-inner_name v h = subst Inner (sym h.2) (refl, inner_decimal h.0 h.1)
+inner_name v h = rw h.2 (refl, inner_decimal h.0 h.1)
 
 atom_name : (v : List ℕ) → Numbered v → atom v ≡ Text.variable v
-atom_name v h = subst (λ (w : List ℕ). atom w ≡ Text.variable w) (sym h.2) refl
+atom_name v h = rw h.2
 
 -- what stands in brackets, by its first two bytes
 data Form : Type 0 where
@@ -130,18 +123,13 @@ form bs =
     (cond (eqb (get_or bs 0 0) 102 && eqb (get_or bs 1 0) 117) abstracting (cond (eqb (get_or bs 0 0) 105 && eqb (get_or bs 1 0) 102) choosing pairing))
 
 form_digit : (d : ℕ) (ds : List ℕ) → Digit d → form (d ∷ ds) ≡ pairing
-form_digit d ds h =
-    cond-false (eqb d 108) _ _ (ne_eqb d 108 (λ e. omega (arith, h.1)))
-    ∙ cond-false (eqb d 102 && eqb (get_or ds 0 0) 117) _ _ (and_left (eqb d 102) (eqb (get_or ds 0 0) 117) (ne_eqb d 102 (λ e. omega (arith, h.1))))
-    ∙ cond-false (eqb d 105 && eqb (get_or ds 0 0) 102) _ _ (and_left (eqb d 105) (eqb (get_or ds 0 0) 102) (ne_eqb d 105 (λ e. omega (arith, h.1))))
+form_digit d ds h = grind (arith, nat_tests, h)
 
 form_decimal : (n : ℕ) (r : List ℕ) → n < 2 ^ 64 → form (decimal n ++ r) ≡ pairing
-form_decimal n r l = let f = first_digit n l in ap (λ (w : List ℕ). form (w ++ r)) f.2 ∙ form_digit f.0 (f.1 ++ r) f.3
+form_decimal n r l = let f = first_digit n l in rw f.2 (form_digit f.0 (f.1 ++ r) f.3)
 
 form_input : (n : ℕ) (r : List ℕ) → n < 2 ^ 64 → form (105 ∷ (decimal n ++ r)) ≡ pairing
-form_input n r l =
-    let f = first_digit n l in
-    ap (λ (w : List ℕ). form (105 ∷ (w ++ r))) f.2 ∙ cond-false (eqb f.0 102) choosing pairing (ne_eqb f.0 102 (λ e. omega (arith, f.3.1)))
+form_input n r l = let f = first_digit n l in rw f.2 (grind (arith, nat_tests, f.3))
 
 form_part : (x : Spelled) (r : List ℕ) → Tidy x → form (flat x ++ r) ≡ pairing
 form_part (Text.number (pos n)) r t = let l = ltb-true n (2 ^ 31) t in form_decimal n r (omega arith)
@@ -149,7 +137,7 @@ form_part (Text.number (negsuc n)) r t = refl
 form_part (Text.truth true) r t = refl
 form_part (Text.truth false) r t = refl
 form_part (Text.input i) r t = form_input i r t
-form_part (Text.variable v) r t = subst (λ (w : List ℕ). form (w ++ r) ≡ pairing) (sym t.2) refl
+form_part (Text.variable v) r t = rw t.2
 form_part (Text.join o a b) r t = refl
 form_part (Text.choose a b d) r t = refl
 form_part (Text.apply f a) r t = refl
@@ -208,13 +196,8 @@ depth (Text.function v p b) = 1 + depth b
 depth (Text.letin v e b) = 1 + depth e + depth b
 
 -- the bytes of each form, one part after the other
-regroup : (a m b e r : List ℕ) → (((a ++ m) ++ b) ++ e) ++ r ≡ a ++ (m ++ (b ++ (e ++ r)))
-regroup a m b e r = simp append_assoc
-
 join_bytes : (o : Operator) (a b : Spelled) (r : List ℕ) → flat (Text.join o a b) ++ r ≡ 40 ∷ (flat a ++ (32 ∷ (sign o ++ (32 ∷ (flat b ++ (41 ∷ r))))))
-join_bytes o a b r =
-    ap (λ (l : List ℕ). 40 ∷ l)
-    (regroup (flat a) (between o) (flat b) (codes ")") r ∙ ap (λ (l : List ℕ). flat a ++ (32 ∷ l)) (append_assoc (sign o) (codes " ") (flat b ++ (41 ∷ r))))
+join_bytes o a b r = search (rules, append_assoc)
 
 choose_bytes : (a b d : Spelled) (r : List ℕ)
     → flat (Text.choose a b d) ++ r ≡ 40 ∷ 105 ∷ 102 ∷ 32 ∷ (flat a ++ (codes " then " ++ (flat b ++ (codes " else " ++ (flat d ++ (41 ∷ r))))))
@@ -224,9 +207,7 @@ apply_bytes : (f a : Spelled) (r : List ℕ) → flat (Text.apply f a) ++ r ≡ 
 apply_bytes f a r = simp append_assoc
 
 function_bytes : (v : List ℕ) (p : Base) (b : Spelled) (r : List ℕ) → flat (Text.function v p b) ++ r ≡ 40 ∷ 102 ∷ 117 ∷ 110 ∷ 32 ∷ (v ++ (58 ∷ (letter p ++ (codes " . " ++ (flat b ++ (41 ∷ r))))))
-function_bytes v p b r =
-    ap (λ (l : List ℕ). 40 ∷ 102 ∷ 117 ∷ 110 ∷ 32 ∷ l)
-    (regroup v (codes ":" ++ letter p ++ codes " . ") (flat b) (codes ")") r ∙ ap (λ (l : List ℕ). v ++ (58 ∷ l)) (append_assoc (letter p) (codes " . ") (flat b ++ (41 ∷ r))))
+function_bytes v p b r = search (rules, append_assoc)
 
 let_bytes : (v : List ℕ) (e b : Spelled) (r : List ℕ) → flat (Text.letin v e b) ++ r ≡ 40 ∷ 108 ∷ 101 ∷ 116 ∷ 32 ∷ (v ++ (codes " = " ++ (flat e ++ (codes " in " ++ (flat b ++ (41 ∷ r))))))
 let_bytes v e b r = simp append_assoc
@@ -236,30 +217,16 @@ abbrev Reads : (List ℕ → Read) → Spelled → Type 0
 Reads rd x = (r : List ℕ) → Ends r → rd (flat x ++ r) ≡ (x, r)
 
 pair_join : (o : Operator) (x y : Spelled) (rest : List ℕ) → pair_by (get_or (32 ∷ (sign o ++ rest)) 1 0) x y ≡ Text.join o x y
-pair_join Add x y rest = refl
-pair_join Subtract x y rest = refl
-pair_join Multiply x y rest = refl
-pair_join Less x y rest = refl
-pair_join Equal x y rest = refl
-pair_join And x y rest = refl
-pair_join Or x y rest = refl
+pair_join o x y rest = search rules
 
 past_sign : (o : Operator) (rest : List ℕ) → drop 3 (32 ∷ (sign o ++ (32 ∷ rest))) ≡ rest
-past_sign Add rest = refl
-past_sign Subtract rest = refl
-past_sign Multiply rest = refl
-past_sign Less rest = refl
-past_sign Equal rest = refl
-past_sign And rest = refl
-past_sign Or rest = refl
+past_sign o rest = search rules
 
 base_letter : (p : Base) (rest : List ℕ) → base_by (get_or (58 ∷ (letter p ++ rest)) 1 0) ≡ p
-base_letter Number rest = refl
-base_letter Truth rest = refl
+base_letter p rest = search rules
 
 past_letter : (p : Base) (rest : List ℕ) → drop 5 (58 ∷ (letter p ++ (codes " . " ++ rest))) ≡ rest
-past_letter Number rest = refl
-past_letter Truth rest = refl
+past_letter p rest = search rules
 
 read_join : (rd : List ℕ → Read) (o : Operator) (a b : Spelled) (r : List ℕ) → Reads rd a → Reads rd b → pair_from rd (rd (flat a ++ (32 ∷ (sign o ++ (32 ∷ (flat b ++ (41 ∷ r))))))) ≡ (Text.join o a b, r)
 read_join rd o a b r ha hb =
@@ -311,9 +278,7 @@ read_word k w r x a e n h =
     ∙ (λ i. (atom (q.0 i), q.1 i)) ∙ ap (λ (y : Spelled). (y, r)) h
 
 decimal_no_bracket : (n : ℕ) (r : List ℕ) → n < 2 ^ 64 → eqb (get_or (decimal n ++ r) 0 0) 40 ≡ false
-decimal_no_bracket n r l =
-    let f = first_digit n l in
-    subst (λ (w : List ℕ). eqb (get_or (w ++ r) 0 0) 40 ≡ false) (sym f.2) (ne_eqb f.0 40 (λ e. omega (arith, f.3.0)))
+decimal_no_bracket n r l = let f = first_digit n l in rw f.2 (ne_eqb f.0 40 (λ e. omega (arith, f.3.0)))
 
 reads : (k : ℕ) (x : Spelled) → depth x ≤ k → Tidy x → Reads (read k) x
 reads ℕ.zero (Text.number n) l t r e = absurd (omega arith)
@@ -331,8 +296,7 @@ reads (suc k) (Text.number (negsuc n)) l t r e = let h = atom_signed (negsuc n) 
 reads (suc k) (Text.truth true) l t r e = read_word k (word true) r (Text.truth true) (atom_word true).1 e refl refl
 reads (suc k) (Text.truth false) l t r e = read_word k (word false) r (Text.truth false) (atom_word false).1 e refl refl
 reads (suc k) (Text.input i) l t r e = read_word k (105 ∷ decimal i) r (Text.input i) (refl, inner_decimal i t) e refl (ap Text.input (decimal_is_IsNumeral i t).1)
-reads (suc k) (Text.variable v) l t r e =
-    read_word k v r (Text.variable v) (inner_name v t) e (subst (λ (w : List ℕ). eqb (get_or (w ++ r) 0 0) 40 ≡ false) (sym t.2) refl) (atom_name v t)
+reads (suc k) (Text.variable v) l t r e = read_word k v r (Text.variable v) (inner_name v t) e (rw t.2) (atom_name v t)
 reads (suc k) (Text.join o a b) l t r e =
     ap (read (suc k)) (join_bytes o a b r) ∙ ap (λ (f : Form). inside (read k) f (flat a ++ (32 ∷ (sign o ++ (32 ∷ (flat b ++ (41 ∷ r))))))) (form_part a (32 ∷ (sign o ++ (32 ∷ (flat b ++ (41 ∷ r))))) t.0)
     ∙ read_join (read k) o a b r (reads k a (omega arith) t.0) (reads k b (omega arith) t.1)
@@ -353,22 +317,17 @@ same_spelling x y s t e =
 
 number_small : (around : List ℕ) (s : ℕ) → number_of around s ≤ length around
 number_small [] s = omega arith
-number_small (x ∷ around) s =
-    let h = number_small around s in cond_both (eqb x s) (length around) (number_of around s) (λ n. n ≤ suc (length around)) (λ _. omega arith) (λ _. omega arith)
+number_small (x ∷ around) s = grind (arith, nat_tests, number_small around s)
 
 tidy : (around : List ℕ) (c : Code) → ranged c ≡ true → length around + size c < 2 ^ 64 → Tidy (spelled around c)
 tidy around (Code.number n) g l = g
 tidy around (Code.truth b) g l = tt
 tidy around (Code.input i) g l = let h = ltb-true i 8 g in omega arith
 tidy around (Code.variable s) g l = let h = number_small around s in (number_of around s, omega arith, refl)
-tidy around (Code.join o a b) g l = let h = and_parts (ranged a) (ranged b) g in (tidy around a h.0 (omega arith), tidy around b h.1 (omega arith))
-tidy around (Code.choose a b d) g l =
-    let h = and_parts (ranged a && ranged b) (ranged d) g in
-    let h2 = and_parts (ranged a) (ranged b) h.0 in
-    (tidy around a h2.0 (omega arith), tidy around b h2.1 (omega arith), tidy around d h.1 (omega arith))
-tidy around (Code.apply f a) g l = let h = and_parts (ranged f) (ranged a) g in (tidy around f h.0 (omega arith), tidy around a h.1 (omega arith))
-tidy around (Code.function s p b) g l =
-    let h = and_parts (ltb s 4096) (ranged b) g in ((length around, omega arith, refl), tidy (s ∷ around) b h.1 (omega arith))
+tidy around (Code.join o a b) g l = search (rules, tidy around a, tidy around b)
+tidy around (Code.choose a b d) g l = search (rules, tidy around a, tidy around b, tidy around d)
+tidy around (Code.apply f a) g l = search (rules, tidy around f, tidy around a)
+tidy around (Code.function s p b) g l = let h = and_parts (ltb s 4096) (ranged b) g in ((length around, omega arith, refl), tidy (s ∷ around) b h.1 (omega arith))
 tidy around (Code.letin s x b) g l =
     let h = and_parts (ltb s 4096 && ranged x) (ranged b) g in
     let h2 = and_parts (ltb s 4096) (ranged x) h.0 in

@@ -13,6 +13,7 @@ pub data Code : Type 0 where
   apply : Code → Code → Code
   function : ℕ → Base → Code → Code
   letin : ℕ → Code → Code → Code
+  deriving IsSet as Code-set
 
 -- the number of constructs
 abbrev pub size : Code → ℕ

@@ -5,6 +5,7 @@ pub mod Names
 pub mod Typing
 pub mod Text
 pub mod Serials
+pub mod SerialsLaw
 pub mod Exact
 pub mod Belong
 pub mod Apart

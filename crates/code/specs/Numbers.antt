@@ -1,6 +1,8 @@
 -- The numbers of operators, types, constructs and refusals. Each stands here once, and every promise goes through these.
-use Rattle.std.specs.Prelude.{◌≡◌, ℕ, ◌+◌, ◌*◌, cond, List, [], ◌∷◌, Some, None, Option, ◌==◌}
+use Rattle.std.specs.Prelude.{◌≡◌, ℕ, ◌+◌, ◌*◌, cond, List, [], ◌∷◌, Some, None, Option, Result, ◌==◌}
+use Rattle.std.specs.Option.{ok_or}
 use Rattle.code.specs.declared.operator.Operator.{Operator}
+use Rattle.code.specs.declared.operator.UnknownNumber.{UnknownNumber}
 use Rattle.code.specs.declared.operator.Operator.TheVariants.{Add, Subtract, Multiply, Less, Equal, And, Or}
 use Rattle.code.specs.declared.types.Base.{Base}
 use Rattle.code.specs.declared.types.Base.TheVariants.{Number, Truth}
@@ -65,11 +67,18 @@ abbrev pub with_number : {A : Type 0} → (A → ℕ) → List A → ℕ → Opt
 with_number number [] n = None
 with_number number (x ∷ xs) n = cond (number x == n) (Some x) (with_number number xs n)
 
+-- the operator with this number, or that none has it
 abbrev pub operator : ℕ → Option Operator
 operator = with_number operator_number (Add ∷ Subtract ∷ Multiply ∷ Less ∷ Equal ∷ And ∷ Or ∷ [])
 
 abbrev pub base : ℕ → Option Base
 base = with_number base_number (Number ∷ Truth ∷ [])
+
+abbrev pub read_operator : ℕ → Result Operator UnknownNumber
+read_operator n = ok_or (operator n) (record { number = n })
+
+abbrev pub read_base : ℕ → Result Base UnknownNumber
+read_base n = ok_or (base n) (record { number = n })
 
 -- each operator and each plain type is read back from its number, and from no other
 pub record NumbersExact : Type 0 where

@@ -1,17 +1,17 @@
 // A construct, with handles of a store for its parts.
-ghost use Rattle.std.specs.Prelude.{◌≡◌, Decides};
+ghost use Rattle.std.specs.Prelude.{◌≡◌};
 ghost use Rattle.code.specs.Numbers.{kind};
 
 use crate::operator::Operator;
 use crate::types::Base;
 
 // What a store calls a code by.
-#[derive(Clone, Copy, PartialEq, Eq)]
+#[derive(Clone, Copy, Debug, PartialEq, Eq)]
 pub struct Handle {
     pub number: u32,
 }
 
-#[derive(Clone, Copy, PartialEq, Eq)]
+#[derive(Clone, Copy, PartialEq, Eq, Debug)]
 pub enum Construct {
     Number(i32),
     Truth(bool),
@@ -24,12 +24,12 @@ pub enum Construct {
     Let(u16, Handle, Handle),
 }
 
-impl Construct {
-    // The number of its kind.
-    pub fn kind(self) -> u8
-        ensures { result ≡ kind self }
-    {
-        match self {
+// The number of its kind.
+impl From<Construct> for u8 {
+    ghost from_gives = { λ construct number. number ≡ kind construct };
+
+    fn from(construct: Construct) -> u8 {
+        match construct {
             Construct::Number(_) => 0,
             Construct::Truth(_) => 1,
             Construct::Input(_) => 2,
@@ -40,12 +40,5 @@ impl Construct {
             Construct::Function(_, _, _) => 7,
             Construct::Let(_, _, _) => 8,
         }
-    }
-
-    // Whether kind, numbers and part handles are all equal.
-    pub fn is_same(self, other: Construct) -> bool
-        ensures { Decides result (self ≡ other) }
-    {
-        self == other
     }
 }

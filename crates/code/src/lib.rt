@@ -3,7 +3,6 @@
 
 pub mod construct;
 pub mod laws;
-pub mod merging;
 pub mod names;
 pub mod operator;
 pub mod refusal;

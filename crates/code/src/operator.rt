@@ -1,12 +1,13 @@
 // The seven operators.
 ghost use Rattle.std.specs.Prelude.{◌≡◌, [], ◌∷◌};
-ghost use Rattle.code.specs.Numbers.{operator_number, operator};
+ghost use Rattle.code.specs.Numbers.{operator_number, read_operator};
 ghost use Rattle.code.specs.Typing.{takes, gives};
 ghost use Rattle.code.specs.Text.{sign};
 
 use crate::types::Base;
 
-#[derive(Clone, Copy, PartialEq, Eq)]
+// In the order of their numbers, which begin at 0.
+#[derive(Clone, Copy, Debug, PartialEq, Eq)]
 pub enum Operator {
     Add,
     Subtract,
@@ -17,38 +18,42 @@ pub enum Operator {
     Or,
 }
 
-impl Operator {
-    // Its number in scripts.
-    pub fn number(self) -> u8
-        ensures { result ≡ operator_number self }
-    {
-        match self {
-            Operator::Add => 0,
-            Operator::Subtract => 1,
-            Operator::Multiply => 2,
-            Operator::Less => 3,
-            Operator::Equal => 4,
-            Operator::And => 5,
-            Operator::Or => 6,
-        }
-    }
+// A number that no operator, or no plain type, has.
+#[derive(Clone, Copy, Debug, PartialEq, Eq)]
+pub struct UnknownNumber {
+    pub number: u8,
+}
 
-    // The operator that has the number, or none.
-    pub fn from_number(number: u8) -> Option<Operator>
-        ensures { result ≡ operator number }
-    {
+// Its number in scripts.
+impl From<Operator> for u8 {
+    ghost from_gives = { λ operator number. number ≡ operator_number operator };
+
+    fn from(operator: Operator) -> u8 {
+        operator as u8
+    }
+}
+
+// The operator that has the number.
+impl TryFrom<u8> for Operator {
+    type Error = UnknownNumber;
+
+    ghost try_from_gives = { λ number answer. answer ≡ read_operator number };
+
+    fn try_from(number: u8) -> Result<Operator, UnknownNumber> {
         match number {
-            0 => Some(Operator::Add),
-            1 => Some(Operator::Subtract),
-            2 => Some(Operator::Multiply),
-            3 => Some(Operator::Less),
-            4 => Some(Operator::Equal),
-            5 => Some(Operator::And),
-            6 => Some(Operator::Or),
-            _ => None,
+            0 => Ok(Operator::Add),
+            1 => Ok(Operator::Subtract),
+            2 => Ok(Operator::Multiply),
+            3 => Ok(Operator::Less),
+            4 => Ok(Operator::Equal),
+            5 => Ok(Operator::And),
+            6 => Ok(Operator::Or),
+            _ => Err(UnknownNumber { number }),
         }
     }
+}
 
+impl Operator {
     // The type of both its operands.
     pub fn takes(self) -> Base
         ensures { result ≡ takes self }
@@ -69,7 +74,7 @@ impl Operator {
         }
     }
 
-    // Its character in a text.
+    // Its character in a text. No `Display`: texts go to lent bytes, by writers that cannot fail, as a formatter may.
     pub fn sign(self) -> u8
         ensures { result ∷ [] ≡ sign self }
     {

@@ -2,51 +2,33 @@
 ghost use Rattle.std.specs.Prelude.{◌≡◌};
 ghost use Rattle.code.specs.Numbers.{refusal_number};
 
-// In checking order.
+// In checking order, each with its number in reports.
 #[derive(Clone, Copy, PartialEq, Eq, Debug)]
 pub enum Refusal {
-    BadArgument,
-    UnknownKind,
-    CutShort,
-    NoBlock,
-    StepsSpent,
-    EmptyCell,
-    Escaped,
-    NoBinder,
-    NoMark,
-    StillOpen,
-    NotClosed,
-    WrongType,
-    TooDeep,
-    NamesSpent,
-    TooLarge,
-    NoRoom,
-    ShortOutput,
+    BadArgument = 1,
+    UnknownKind = 2,
+    CutShort = 3,
+    NoBlock = 4,
+    StepsSpent = 5,
+    EmptyCell = 6,
+    Escaped = 7,
+    NoBinder = 8,
+    NoMark = 9,
+    StillOpen = 10,
+    NotClosed = 11,
+    WrongType = 12,
+    TooDeep = 13,
+    NamesSpent = 14,
+    TooLarge = 15,
+    NoRoom = 16,
+    ShortOutput = 17,
 }
 
-impl Refusal {
-    // Its number in reports.
-    pub fn number(self) -> u8
-        ensures { result ≡ refusal_number self }
-    {
-        match self {
-            Refusal::BadArgument => 1,
-            Refusal::UnknownKind => 2,
-            Refusal::CutShort => 3,
-            Refusal::NoBlock => 4,
-            Refusal::StepsSpent => 5,
-            Refusal::EmptyCell => 6,
-            Refusal::Escaped => 7,
-            Refusal::NoBinder => 8,
-            Refusal::NoMark => 9,
-            Refusal::StillOpen => 10,
-            Refusal::NotClosed => 11,
-            Refusal::WrongType => 12,
-            Refusal::TooDeep => 13,
-            Refusal::NamesSpent => 14,
-            Refusal::TooLarge => 15,
-            Refusal::NoRoom => 16,
-            Refusal::ShortOutput => 17,
-        }
+// Its number in reports.
+impl From<Refusal> for u8 {
+    ghost from_gives = { λ refusal number. number ≡ refusal_number refusal };
+
+    fn from(refusal: Refusal) -> u8 {
+        refusal as u8
     }
 }

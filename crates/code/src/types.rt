@@ -1,46 +1,51 @@
 // The types of code, and the type of each construct from those of its parts.
 ghost use Rattle.std.specs.Prelude.{◌≡◌, [], ◌∷◌};
-ghost use Rattle.code.specs.Numbers.{base_number, base, type_number};
-ghost use Rattle.code.specs.Typing.{joined, chosen, applied, abstracted, same_base, same_type};
+ghost use Rattle.code.specs.Numbers.{base_number, read_base, type_number};
+ghost use Rattle.code.specs.Typing.{joined, chosen, applied, abstracted};
 ghost use Rattle.code.specs.Text.{letter};
 
-use crate::operator::Operator;
+use crate::operator::{Operator, UnknownNumber};
 
-#[derive(Clone, Copy, PartialEq, Eq)]
+// In the order of their numbers, which begin at 0.
+#[derive(Clone, Copy, PartialEq, Eq, Debug)]
 pub enum Base {
     Number,
     Truth,
 }
 
 // A plain type, or a function from one to another.
-#[derive(Clone, Copy)]
+#[derive(Clone, Copy, Debug, PartialEq, Eq)]
 pub enum Ty {
     Plain(Base),
     Function(Base, Base),
 }
 
-impl Base {
-    pub fn number(self) -> u8
-        ensures { result ≡ base_number self }
-    {
-        match self {
-            Base::Number => 0,
-            Base::Truth => 1,
-        }
-    }
+// Its number in scripts.
+impl From<Base> for u8 {
+    ghost from_gives = { λ base number. number ≡ base_number base };
 
-    // The plain type that has the number, or none.
-    pub fn from_number(number: u8) -> Option<Base>
-        ensures { result ≡ base number }
-    {
+    fn from(base: Base) -> u8 {
+        base as u8
+    }
+}
+
+// The plain type that has the number.
+impl TryFrom<u8> for Base {
+    type Error = UnknownNumber;
+
+    ghost try_from_gives = { λ number answer. answer ≡ read_base number };
+
+    fn try_from(number: u8) -> Result<Base, UnknownNumber> {
         match number {
-            0 => Some(Base::Number),
-            1 => Some(Base::Truth),
-            _ => None,
+            0 => Ok(Base::Number),
+            1 => Ok(Base::Truth),
+            _ => Err(UnknownNumber { number }),
         }
     }
+}
 
-    // Its letter in a text.
+impl Base {
+    // Its letter in a text. No `Display`, as for an operator's sign.
     pub fn letter(self) -> u8
         ensures { result ∷ [] ≡ letter self }
     {
@@ -49,59 +54,34 @@ impl Base {
             Base::Truth => b't',
         }
     }
+}
 
-    pub fn is_same(self, other: Base) -> bool
-        ensures { result ≡ same_base self other }
-    {
-        match (self, other) {
-            (Base::Number, Base::Number) | (Base::Truth, Base::Truth) => true,
-            _ => false,
+// A plain type has its own number, a function from p to r has 2 + 2p + r.
+impl From<Ty> for u8 {
+    ghost from_gives = { λ ty number. number ≡ type_number ty };
+
+    fn from(ty: Ty) -> u8 {
+        match ty {
+            Ty::Plain(base) => u8::from(base),
+            Ty::Function(from, to) => 2 + 2 * u8::from(from) + u8::from(to),
         }
     }
 }
 
 impl Ty {
-    pub fn number(self) -> u8
-        ensures { result ≡ type_number self }
-    {
-        match self {
-            Ty::Plain(base) => base.number(),
-            Ty::Function(Base::Number, Base::Number) => 2,
-            Ty::Function(Base::Number, Base::Truth) => 3,
-            Ty::Function(Base::Truth, Base::Number) => 4,
-            Ty::Function(Base::Truth, Base::Truth) => 5,
-        }
-    }
-
-    pub fn is_same(self, other: Ty) -> bool
-        ensures { result ≡ same_type self other }
-    {
-        match (self, other) {
-            (Ty::Plain(a), Ty::Plain(b)) => a.is_same(b),
-            (Ty::Function(p, r), Ty::Function(q, t)) => p.is_same(q) && r.is_same(t),
-            _ => false,
-        }
-    }
-
     // The type of a join, or none where it has none.
     pub fn joined(operator: Operator, left: Ty, right: Ty) -> Option<Ty>
         ensures { result ≡ joined operator left right }
     {
         let wanted = Ty::Plain(operator.takes());
-        if left.is_same(wanted) && right.is_same(wanted) {
-            return Some(Ty::Plain(operator.gives()));
-        }
-        None
+        (left == wanted && right == wanted).then_some(Ty::Plain(operator.gives()))
     }
 
     // The type of a choose, or none.
     pub fn chosen(condition: Ty, yes: Ty, no: Ty) -> Option<Ty>
         ensures { result ≡ chosen condition yes no }
     {
-        if condition.is_same(Ty::Plain(Base::Truth)) && yes.is_same(no) {
-            return Some(yes);
-        }
-        None
+        (condition == Ty::Plain(Base::Truth) && yes == no).then_some(yes)
     }
 
     // The type of an apply, or none.
@@ -109,7 +89,7 @@ impl Ty {
         ensures { result ≡ applied function argument }
     {
         match function {
-            Ty::Function(from, to) if argument.is_same(Ty::Plain(from)) => Some(Ty::Plain(to)),
+            Ty::Function(from, to) if argument == Ty::Plain(from) => Some(Ty::Plain(to)),
             _ => None,
         }
     }

@@ -1,29 +1,27 @@
 -- A code with all its names open stands in a program, under just the open binders; and a free name of a code in a program is bound by a binder around it.
-use Rattle.std.proofs.Common.{◌≡◌, ℕ, ◌<◌, ◌≤◌, true, false, ◌&&◌, ◌⊎◌, List, [], ◌∷◌, pos, Some, None, Option, sym, refl, ◌∙◌, subst, inl, inr, ⊎_elim, arith}
+use Rattle.std.proofs.Common.{◌≡◌, ℕ, ◌<◌, ◌≤◌, true, false, ◌&&◌, ◌⊎◌, List, [], ◌∷◌, pos, Some, sym, refl, ◌∙◌, subst, inl, ⊎_elim, arith, rules}
+use Rattle.std.proofs.lemmas.Option.{same_Some}
 use Rattle.std.proofs.lemmas.Bool.{lt-ltb, false≢true, cases_eq}
 use Rattle.code.specs.declared.types.Base.{Base}
 use Rattle.code.specs.declared.types.Base.TheVariants.{Number, Truth}
 use Rattle.code.specs.declared.types.Ty.{Ty}
 use Rattle.code.specs.declared.types.Ty.TheVariants.{Plain, Function}
 use Rattle.code.specs.Code.{Code, ranged}
-use Rattle.code.specs.Names.{merge, without, free}
-use Rattle.code.specs.Typing.{Scope, type_of, then, applied, abstracted}
+use Rattle.code.specs.Names.{without, free}
+use Rattle.code.specs.Typing.{Scope, type_of, then, abstracted}
 use Rattle.code.specs.Members.{In, first, later}
 use Rattle.model.specs.Model.{State, Piece, Binder, parameter, bound}
 use Rattle.model.specs.Finish.{Program, Context, here, join_left, join_right, choose_if, choose_then, choose_else, apply_function, apply_argument, function_body, let_bound, let_body, plug, around, Holds, Finishable}
 use Rattle.model.specs.Exact.{scope}
 use Rattle.code.proofs.NameLists.{in_none, in_merge, merge_left, merge_right, without_keeps}
+use Rattle.code.proofs.TypeRules.{then_some}
 use Rattle.model.proofs.Binders.{no_members, AllOpen, open_past, open_in, in_scope}
 use Rattle.model.proofs.Pieces.{Good, Bound, Opens}
 use Rattle.model.proofs.Sound.{Sound}
 
-then_some : {A B : Type 0} (o : Option A) (f : A → Option B) (y : B) → then o f ≡ Some y → (x : A) × (o ≡ Some x) × (f x ≡ Some y)
-then_some None f y e = absurd (let z : ◌≡◌ {A = ℕ} 0 1 = cc in omega arith)
-then_some (Some x) f y e = (x, refl, e)
-
 -- the binders that are around a context are around its place
 around_keeps : (k : Context) (g h : Scope) (x : ℕ × Ty) → around g k ≡ Some h → In x g → In x h
-around_keeps here g h x e i = let q : g ≡ h = cc in subst (In x) q i
+around_keeps here g h x e i = subst (In x) (same_Some _ _ e) i
 around_keeps (join_left o k b) g h x e i = around_keeps k g h x e i
 around_keeps (join_right o a k) g h x e i = around_keeps k g h x e i
 around_keeps (choose_if k b d) g h x e i = around_keeps k g h x e i
@@ -34,38 +32,31 @@ around_keeps (apply_argument f k) g h x e i = around_keeps k g h x e i
 around_keeps (function_body s p k) g h x e i = around_keeps k ((s, Plain p) ∷ g) h x e (later i)
 around_keeps (let_bound s k b) g h x e i = around_keeps k g h x e i
 around_keeps (let_body s v k) g h x e i =
-    let r = then_some (type_of g v) (λ t. around ((s, t) ∷ g) k) h e in around_keeps k ((s, r.0) ∷ g) h x r.2 (later i)
+    let r = then_some (type_of g v) _ h e in around_keeps k ((s, r.0) ∷ g) h x r.2 (later i)
 
 -- a free name of the code at the place is free in the whole, or bound by a binder around the place
 module _ (c : Code) (s : ℕ) (i : In s (free c)) where
   abbrev Reached : Code → Scope → Type 0
   Reached d h = In s (free d) ⊎ ((t : Ty) × In (s, t) h)
 
-  out : (h : Scope) (d e : Code) → (In s (free d) → In s (free e)) → Reached d h → Reached e h
-  out h d e f r = ⊎_elim (λ j. inl (f j)) inr r
-
-  past : (k : Context) (g h : Scope) (x : ℕ) (t : Ty) (d e : Code) → around ((x, t) ∷ g) k ≡ Some h → (In s (without x (free d)) → In s (free e)) → Reached d h → Reached e h
-  past k g h x t d e q f r =
-      ⊎_elim
-      (λ j. ⊎_elim (λ p. inr (t, around_keeps k ((x, t) ∷ g) h (s, t) q (subst (λ (z : ℕ). In (s, t) ((z, t) ∷ g)) p first))) (λ n. inl (f (without_keeps s x (free d) n j))) (cases_eq s x))
-      inr r
+  past : (h : Scope) (x : ℕ) (t : Ty) (d e : Code) → In (x, t) h → (In s (without x (free d)) → In s (free e)) → Reached d h → Reached e h
+  past h x t d e i f r = search (rules, without_keeps, cases_eq s x, f)
 
   free_around : (k : Context) (g h : Scope) → around g k ≡ Some h → Reached (plug k c) h
   free_around here g h e = inl i
-  free_around (join_left o k b) g h e = out h (plug k c) (Code.join o (plug k c) b) (merge_left s (free (plug k c)) (free b)) (free_around k g h e)
-  free_around (join_right o a k) g h e = out h (plug k c) (Code.join o a (plug k c)) (merge_right s (free a) (free (plug k c))) (free_around k g h e)
-  free_around (choose_if k b d) g h e = out h (plug k c) (Code.choose (plug k c) b d) (merge_left s (free (plug k c)) (merge (free b) (free d))) (free_around k g h e)
-  free_around (choose_then a k d) g h e =
-      out h (plug k c) (Code.choose a (plug k c) d) (λ j. merge_right s (free a) (merge (free (plug k c)) (free d)) (merge_left s (free (plug k c)) (free d) j)) (free_around k g h e)
-  free_around (choose_else a b k) g h e =
-      out h (plug k c) (Code.choose a b (plug k c)) (λ j. merge_right s (free a) (merge (free b) (free (plug k c))) (merge_right s (free b) (free (plug k c)) j)) (free_around k g h e)
-  free_around (apply_function k a) g h e = out h (plug k c) (Code.apply (plug k c) a) (merge_left s (free (plug k c)) (free a)) (free_around k g h e)
-  free_around (apply_argument f k) g h e = out h (plug k c) (Code.apply f (plug k c)) (merge_right s (free f) (free (plug k c))) (free_around k g h e)
-  free_around (function_body x p k) g h e = past k g h x (Plain p) (plug k c) (Code.function x p (plug k c)) e (λ j. j) (free_around k ((x, Plain p) ∷ g) h e)
-  free_around (let_bound x k b) g h e = out h (plug k c) (Code.letin x (plug k c) b) (merge_left s (free (plug k c)) (without x (free b))) (free_around k g h e)
+  free_around (join_left o k b) g h e = search (rules, merge_left, free_around k g h e)
+  free_around (join_right o a k) g h e = search (rules, merge_right, free_around k g h e)
+  free_around (choose_if k b d) g h e = search (rules, merge_left, free_around k g h e)
+  free_around (choose_then a k d) g h e = search (rules, merge_left, merge_right, free_around k g h e)
+  free_around (choose_else a b k) g h e = search (rules, merge_right, free_around k g h e)
+  free_around (apply_function k a) g h e = search (rules, merge_left, free_around k g h e)
+  free_around (apply_argument f k) g h e = search (rules, merge_right, free_around k g h e)
+  free_around (function_body x p k) g h e =
+      past h x (Plain p) (plug k c) (Code.function x p (plug k c)) (around_keeps k ((x, Plain p) ∷ g) h (x, Plain p) e first) (λ j. j) (free_around k ((x, Plain p) ∷ g) h e)
+  free_around (let_bound x k b) g h e = search (rules, merge_left, free_around k g h e)
   free_around (let_body x v k) g h e =
-      let r = then_some (type_of g v) (λ t. around ((x, t) ∷ g) k) h e in
-      past k g h x r.0 (plug k c) (Code.letin x v (plug k c)) r.2 (merge_right s (free v) (without x (free (plug k c)))) (free_around k ((x, r.0) ∷ g) h r.2)
+      let r = then_some (type_of g v) _ h e in
+      past h x r.0 (plug k c) (Code.letin x v (plug k c)) (around_keeps k ((x, r.0) ∷ g) h (x, r.0) r.2 first) (merge_right s (free v) (without x (free (plug k c)))) (free_around k ((x, r.0) ∷ g) h r.2)
 
 -- code that can be finished has all its names open
 pub finishable_open : (st : State) (x : Piece) → Good st.open_binders st.next x → Finishable st x.code → AllOpen st.open_binders x.names
@@ -76,10 +67,10 @@ finishable_open st x g f s i =
     (free_around x.code s (subst (In s) g.named i) f.0 [] holds.binders holds.these)
 
 -- a code under open binders that bind all its free names
-pub record Fits (bs : List Binder) (c : Code) (t : Ty) : Type 0 where
-  pub typed : type_of (scope bs) c ≡ Some t
-  pub all_open : AllOpen bs (free c)
-  pub in_range : ranged c ≡ true
+record Fits (bs : List Binder) (c : Code) (t : Ty) : Type 0 where
+  typed : type_of (scope bs) c ≡ Some t
+  all_open : AllOpen bs (free c)
+  in_range : ranged c ≡ true
 
 -- a code of each type with no names
 abbrev pub literal : Base → Code
@@ -87,16 +78,7 @@ literal Number = Code.number (pos 0)
 literal Truth = Code.truth false
 
 fits_applied : (bs : List Binder) (c : Code) (q r : Base) → Fits bs c (Function q r) → Fits bs (Code.apply c (literal q)) (Plain r)
-fits_applied bs c Number r f = record {
-  typed = λ i. then (f.typed i) (λ t. then (Some (Plain Number)) (applied t));
-  all_open = λ s i. ⊎_elim (f.all_open s) (λ j. absurd (in_none j)) (in_merge s (free c) [] i);
-  in_range = λ i. f.in_range i && true;
-}
-fits_applied bs c Truth r f = record {
-  typed = λ i. then (f.typed i) (λ t. then (Some (Plain Truth)) (applied t));
-  all_open = λ s i. ⊎_elim (f.all_open s) (λ j. absurd (in_none j)) (in_merge s (free c) [] i);
-  in_range = λ i. f.in_range i && true;
-}
+fits_applied bs c q r f = search (rules, in_merge, in_none, f.typed, f.all_open, f.in_range)
 
 fits_function : (s : ℕ) (p : Base) (bs : List Binder) (c : Code) (r : Base) → s < 4096 → Fits (parameter s p ∷ bs) c (Plain r) → Fits bs (Code.function s p c) (Function p r)
 fits_function s p bs c r l f = record {

@@ -1,16 +1,14 @@
 -- A call is refused as escaped just where a cell that it uses can't be finished.
-use Rattle.std.proofs.Common.{◌≡◌, ℕ, ◌+◌, Bool, true, false, ◌&&◌, eqb, ltb, leb, List, [], ◌∷◌, ◌++◌, length, Some, None, Ok, Err, Option, Result, sym, refl, ap, ◌∙◌, subst, subst₂, ⊎_elim, arith}
-use Rattle.std.proofs.lemmas.Bool.{ltb-true, eqb-true, eqb-false, and_parts}
+use Rattle.std.proofs.Common.{◌≡◌, ℕ, ◌+◌, Bool, true, false, ◌&&◌, eqb, ltb, leb, List, [], ◌∷◌, ◌++◌, length, Some, None, Ok, Err, Option, Result, sym, refl, ap, ◌∙◌, subst, subst₂, ⊎_elim, rules}
+use Rattle.std.proofs.lemmas.Bool.{eqb-true, eqb-false, and_parts}
 use Rattle.code.specs.declared.operator.Operator.{Operator}
-use Rattle.code.specs.declared.types.Ty.{Ty}
-use Rattle.code.specs.Code.{Code, in_range32}
+use Rattle.code.specs.Code.{Code}
 use Rattle.code.specs.Names.{merge}
 use Rattle.code.specs.Text.{text}
-use Rattle.code.specs.Typing.{joined, chosen, applied, abstracted}
-use Rattle.code.specs.Numbers.{operator, base}
+use Rattle.code.specs.Typing.{joined, chosen, applied}
+use Rattle.code.specs.Numbers.{operator}
 use Rattle.code.specs.Members.{In, first, later}
-use Rattle.model.specs.Model
-use Rattle.model.specs.Model.{State, Piece, Binder, parameter, bound, Plan, Refusal, Fault, plain, escape_cell, stated, cell, judged, judge, full, typed, lawful, usable, escaping, escaped, bad_argument, too_large, not_closed, short_output, into, leaf, opened, closed_with, close_latest, finish_mark, leave_mark}
+use Rattle.model.specs.Model.{State, Piece, bound, Plan, Refusal, Fault, escape_cell, stated, cell, judged, judge, full, typed, lawful, usable, escaping, escaped, bad_argument, too_large, not_closed, short_output, into, opened, close_latest}
 use Rattle.model.specs.Calls.{Sheet, made, does, kept}
 use Rattle.model.specs.declared.call.Call.{Call}
 use Rattle.model.specs.Finish.{uses, Full, Finishable, Escapes, Unfinishable, EscapeExact, FirstUnfinishable, EscapeFirst}
@@ -22,7 +20,7 @@ use Rattle.model.proofs.Sound.{Sound, grown_sound}
 use Rattle.model.proofs.Contexts.{finishable_open, open_holds}
 
 -- a result that is no refusal as escaped
-abbrev pub NoEscape : {A : Type 0} → Result A Fault → Type 0
+abbrev NoEscape : {A : Type 0} → Result A Fault → Type 0
 NoEscape (Ok x) = Unit {0}
 NoEscape (Err f) = escape_cell f ≡ None
 
@@ -34,24 +32,7 @@ ClosedOff st x = AllOpen st.open_binders x.names → ⊥
 
 module _ {A : Type 0} where
   no_escape : (r : Result A Fault) → NoEscape r → Escaped r → ⊥
-  no_escape (Ok x) h e = let q = e.2 in let z : ◌≡◌ {A = ℕ} 0 1 = cc in omega arith
-  no_escape (Err f) h e = let q : f ≡ escaped e.0 e.1 = cc e.2 in let w = ap escape_cell q in let z : ◌≡◌ {A = ℕ} 0 1 = cc in omega arith
-
-  pub no_judge : (b : Bool) (f : Refusal) (r : Result A Fault) → escape_cell (plain f) ≡ None → NoEscape r → NoEscape (judge b f r)
-  no_judge true f r e h = h
-  no_judge false f r e h = e
-
-  no_full : (o : Option Piece) (k : Piece → Result A Fault) → ((x : Piece) → NoEscape (k x)) → NoEscape (full o k)
-  no_full None k h = refl
-  no_full (Some x) k h = h x
-
-  no_typed : (o : Option Ty) (k : Ty → Result A Fault) → ((t : Ty) → NoEscape (k t)) → NoEscape (typed o k)
-  no_typed None k h = refl
-  no_typed (Some t) k h = h t
-
-  no_lawful : {B : Type 0} (o : Option B) (k : B → Result A Fault) → ((x : B) → NoEscape (k x)) → NoEscape (lawful o k)
-  no_lawful None k h = refl
-  no_lawful (Some x) k h = h x
+  no_escape r h e = search rules
 
   -- the used cells are judged one after the other, and then the rest
   abbrev chain : State → List (ℕ × Piece) → Result A Fault → Result A Fault
@@ -88,9 +69,7 @@ used st (i ∷ is) f = (i, (f i first).0) ∷ used st is (λ j h. f j (later h))
 
 in_used : (st : State) (is : List ℕ) (f : (i : ℕ) → In i is → Full st i) (x : ℕ × Piece) → In x (used st is f) → In x.0 is × (cell st x.0 ≡ Some x.1)
 in_used st [] f x h = absurd (in_none h)
-in_used st (i ∷ is) f x h =
-    ⊎_elim (λ e. subst (λ (z : ℕ × Piece). In z.0 (i ∷ is) × (cell st z.0 ≡ Some z.1)) (sym e) (first, (f i first).1))
-    (λ j. let r = in_used st is (λ j h. f j (later h)) x j in (later r.0, r.1)) (in_cons h)
+in_used st (i ∷ is) f x h = search (rules, in_cons, in_used st is (λ j h. f j (later h)) x, first, later, f i first)
 
 used_in : (st : State) (is : List ℕ) (f : (i : ℕ) → In i is → Full st i) (i : ℕ) (p : Piece) → In i is → cell st i ≡ Some p → In (i, p) (used st is f)
 used_in st [] f i p h e = absurd (in_none h)
@@ -114,16 +93,8 @@ module _ (output : Sheet) (st : State) (h : Sound st) (c : Call) (f : (i : ℕ) 
       back (Ok x) g q = absurd (granted x g q)
       back (Err k) g q = let u = sym (refused k) ∙ q in let z : k ≡ g = cc in ap Err z
 
-  -- a call that uses no code
-  exact_none : uses c ≡ [] → NoEscape (does stated output st c) → (Escapes output st c → Unfinishable st c) × (Unfinishable st c → Escapes output st c)
-  exact_none e n = (λ x. absurd (no_escape (does stated output st c) n x), λ d. absurd (in_none (subst (In d.0) e d.2)))
-
 made_granted : (p : Plan) (g : Fault) → made None (Ok p) ≡ Err g → ⊥
-made_granted p g e = let z : ◌≡◌ {A = ℕ} 0 1 = cc in omega arith
-
-no_made : (r : Result Plan Fault) → NoEscape r → NoEscape (made None r)
-no_made (Ok p) h = tt
-no_made (Err f) h = h
+made_granted p g e = cc
 
 -- what each call does once the used cells are judged
 module _ (st : State) (c : ℕ) where
@@ -145,98 +116,62 @@ module _ (st : State) (c : ℕ) where
       judge (leb (1 + x.size + y.size) 4096) too_large
       (into st c (record { code = Code.apply x.code y.code; type = t; size = 1 + x.size + y.size; names = merge x.names y.names }))
 
-  no_opened : (b : Binder) → NoEscape (opened stated st c b)
-  no_opened b = no_judge (ltb (length st.open_binders) 16) _ _ refl (no_judge (ltb st.next 4096) _ _ refl tt)
-
-  no_closed_with : (x : Piece) (b : Binder) (rest : List Binder) → NoEscape (closed_with stated st c x b rest)
-  no_closed_with x (parameter s p) rest = no_typed (abstracted p x.type) _ (λ t. no_judge (leb (1 + x.size) 4096) _ _ refl tt)
-  no_closed_with x (bound s e) rest = no_judge (leb (1 + e.size + x.size) 4096) _ _ refl tt
-
-  no_close : (x : Piece) (bs : List Binder) → NoEscape (close_latest stated st c x bs)
-  no_close x [] = refl
-  no_close x (b ∷ rest) = no_judge (leb (Model.floor st.marks) (length rest)) _ _ refl (no_closed_with x b rest)
-
-pub no_finish : (st : State) (ms : List ℕ) → NoEscape (finish_mark stated st ms)
-no_finish st [] = refl
-no_finish st (m ∷ ms) = no_judge (leb (length st.open_binders) m) _ _ refl tt
-
-pub no_leave : (st : State) (ms : List ℕ) → NoEscape (leave_mark stated st ms)
-no_leave st [] = refl
-no_leave st (m ∷ ms) = tt
-
-no_leaf : (st : State) (c : ℕ) (x : Code) (t : Ty) → NoEscape (leaf st c x t)
-no_leaf st c x t = no_judge (ltb c 16) _ _ refl tt
-
 abbrev line : Piece → List ℕ
 line x = text [] x.code ++ (10 ∷ [])
 
-uses_none : (i : ℕ) (is : List ℕ) → ◌≡◌ {A = List ℕ} (i ∷ is) [] → ⊥
-uses_none i is e = let z : ◌≡◌ {A = ℕ} 0 1 = cc in omega arith
-
 -- a call that uses no code is not refused as escaped
 quiet : (output : Sheet) (st : State) (c : Call) → uses c ≡ [] → NoEscape (does stated output st c)
-quiet output st (call.Num c n) e = no_made _ (no_judge (in_range32 n) _ _ refl (no_leaf st c (Code.number n) _))
-quiet output st (call.Truth c b) e = no_made _ (no_judge (ltb b 2) _ _ refl (no_leaf st c _ _))
-quiet output st (call.Input c i) e = no_made _ (no_judge (ltb i 8) _ _ refl (no_leaf st c _ _))
-quiet output st (call.Fun c p) e = no_made _ (no_judge (ltb c 16) _ _ refl (no_lawful (base p) _ (λ t. no_opened st c (parameter st.next t))))
-quiet output st (call.Copy c a) e = no_judge (ltb c 16 && ltb a 16) _ _ refl (no_full (cell st a) _ (λ x. tt))
-quiet output st (call.Clear c) e = no_judge (ltb c 16) _ _ refl tt
-quiet output st call.Mark e = no_judge (ltb (length st.marks) 8) _ _ refl tt
-quiet output st call.Finish e = no_finish st st.marks
-quiet output st call.Leave e = no_leave st st.marks
-quiet output st (call.Let c a) e = absurd (uses_none _ _ e)
-quiet output st (call.Close c a) e = absurd (uses_none _ _ e)
-quiet output st (call.Join c o a b) e = absurd (uses_none _ _ e)
-quiet output st (call.Choose c a b d) e = absurd (uses_none _ _ e)
-quiet output st (call.Apply c f a) e = absurd (uses_none _ _ e)
-quiet output st (call.Print a) e = absurd (uses_none _ _ e)
+quiet output st c e = search rules
+
+exact_none : (output : Sheet) (st : State) (c : Call) → uses c ≡ [] → (Escapes output st c → Unfinishable st c) × (Unfinishable st c → Escapes output st c)
+exact_none output st c e = (λ x. absurd (no_escape (does stated output st c) (quiet output st c e) x), λ d. absurd (in_none (subst (In d.0) e d.2)))
 
 pub escape_exact : EscapeExact
-escape_exact st grown output (call.Num c n) l f = exact_none output st (grown_sound grown) (call.Num c n) f refl (quiet output st (call.Num c n) refl)
-escape_exact st grown output (call.Truth c b) l f = exact_none output st (grown_sound grown) (call.Truth c b) f refl (quiet output st (call.Truth c b) refl)
-escape_exact st grown output (call.Input c i) l f = exact_none output st (grown_sound grown) (call.Input c i) f refl (quiet output st (call.Input c i) refl)
-escape_exact st grown output (call.Fun c p) l f = exact_none output st (grown_sound grown) (call.Fun c p) f refl (quiet output st (call.Fun c p) refl)
+escape_exact st grown output (call.Num c n) l f = exact_none output st (call.Num c n) refl
+escape_exact st grown output (call.Truth c b) l f = exact_none output st (call.Truth c b) refl
+escape_exact st grown output (call.Input c i) l f = exact_none output st (call.Input c i) refl
+escape_exact st grown output (call.Fun c p) l f = exact_none output st (call.Fun c p) refl
 escape_exact st grown output (call.Let c a) l f =
     let x = f a first in
-    exact_by output st (grown_sound grown) (call.Let c a) f (made None) (λ g. refl) made_granted (opened stated st c (bound st.next x.0)) (no_opened st c (bound st.next x.0))
+    exact_by output st (grown_sound grown) (call.Let c a) f (made None) (λ g. refl) made_granted (opened stated st c (bound st.next x.0)) (search rules)
     (λ k. made None (judge (l k) bad_argument (full (x.1 k) λ p. usable st a p (opened stated st c (bound st.next p)))))
 escape_exact st grown output (call.Close c a) l f =
     let x = f a first in
-    exact_by output st (grown_sound grown) (call.Close c a) f (made None) (λ g. refl) made_granted (close_latest stated st c x.0 st.open_binders) (no_close st c x.0 st.open_binders)
+    exact_by output st (grown_sound grown) (call.Close c a) f (made None) (λ g. refl) made_granted (close_latest stated st c x.0 st.open_binders) (search rules)
     (λ k. made None (judge (l k) bad_argument (full (x.1 k) λ p. usable st a p (close_latest stated st c p st.open_binders))))
-escape_exact st grown output (call.Copy c a) l f = exact_none output st (grown_sound grown) (call.Copy c a) f refl (quiet output st (call.Copy c a) refl)
+escape_exact st grown output (call.Copy c a) l f = exact_none output st (call.Copy c a) refl
 escape_exact st grown output (call.Join c o a b) l f =
     let x = f a first in
     let y = f b (later first) in
     let ab = and_parts (ltb c 16 && ltb o 7 && ltb a 16) (ltb b 16) l in
     let aa = and_parts (ltb c 16 && ltb o 7) (ltb a 16) ab.0 in
     let co = and_parts (ltb c 16) (ltb o 7) aa.0 in
-    let op = operator_lawful o (ltb-true o 7 co.1) in
+    let op = operator_lawful o co.1 in
     exact_by output st (grown_sound grown) (call.Join c o a b) f (made None) (λ g. refl) made_granted (join_rest st c op.0 x.0 y.0)
-    (no_typed (joined op.0 x.0.type y.0.type) _ (λ t. no_judge (leb (1 + x.0.size + y.0.size) 4096) _ _ refl tt))
+    (search rules)
     (λ k. made None (judge (co.0 k && aa.1 k && ab.1 k) bad_argument (lawful (op.1 k) λ w. full (x.1 k) λ p. full (y.1 k) λ q. usable st a p (usable st b q (join_rest st c w p q)))))
 escape_exact st grown output (call.Choose c a b d) l f =
     let x = f a first in
     let y = f b (later first) in
     let z = f d (later (later first)) in
     exact_by output st (grown_sound grown) (call.Choose c a b d) f (made None) (λ g. refl) made_granted (choose_rest st c x.0 y.0 z.0)
-    (no_typed (chosen x.0.type y.0.type z.0.type) _ (λ t. no_judge (leb (1 + x.0.size + y.0.size + z.0.size) 4096) _ _ refl tt))
+    (search rules)
     (λ k. made None (judge (l k) bad_argument (full (x.1 k) λ p. full (y.1 k) λ q. full (z.1 k) λ r. usable st a p (usable st b q (usable st d r (choose_rest st c p q r))))))
 escape_exact st grown output (call.Apply c g a) l f =
     let x = f g first in
     let y = f a (later first) in
     exact_by output st (grown_sound grown) (call.Apply c g a) f (made None) (λ g. refl) made_granted (apply_rest st c x.0 y.0)
-    (no_typed (applied x.0.type y.0.type) _ (λ t. no_judge (leb (1 + x.0.size + y.0.size) 4096) _ _ refl tt))
+    (search rules)
     (λ k. made None (judge (l k) bad_argument (full (x.1 k) λ p. full (y.1 k) λ q. usable st g p (usable st a q (apply_rest st c p q)))))
-escape_exact st grown output (call.Clear c) l f = exact_none output st (grown_sound grown) (call.Clear c) f refl (quiet output st (call.Clear c) refl)
-escape_exact st grown output call.Mark l f = exact_none output st (grown_sound grown) call.Mark f refl (quiet output st call.Mark refl)
-escape_exact st grown output call.Finish l f = exact_none output st (grown_sound grown) call.Finish f refl (quiet output st call.Finish refl)
-escape_exact st grown output call.Leave l f = exact_none output st (grown_sound grown) call.Leave f refl (quiet output st call.Leave refl)
+escape_exact st grown output (call.Clear c) l f = exact_none output st (call.Clear c) refl
+escape_exact st grown output call.Mark l f = exact_none output st call.Mark refl
+escape_exact st grown output call.Finish l f = exact_none output st call.Finish refl
+escape_exact st grown output call.Leave l f = exact_none output st call.Leave refl
 escape_exact st grown output (call.Print a) l f =
     let x = f a first in
-    exact_by output st (grown_sound grown) (call.Print a) f (kept st) (λ g. refl) (λ s g e. let z : ◌≡◌ {A = ℕ} 0 1 = cc in omega arith)
+    exact_by output st (grown_sound grown) (call.Print a) f (kept st) (λ g. refl) (λ s g e. cc)
     (judge (eqb (length x.0.names) 0) not_closed (judge (leb (output.at + length (line x.0)) (length output.bytes)) short_output (Ok (line x.0))))
-    (no_judge (eqb (length x.0.names) 0) _ _ refl (no_judge (leb (output.at + length (line x.0)) (length output.bytes)) _ _ refl tt))
+    (search rules)
     (λ k. kept st (judge (l k) bad_argument (full (x.1 k) λ p. usable st a p
     (judge (eqb (length p.names) 0) not_closed (judge (leb (output.at + length (line p)) (length output.bytes)) short_output (Ok (line p)))))))
 
@@ -248,18 +183,18 @@ Tells (Err f) P = (i n : ℕ) → f ≡ escaped i n → P i n
 module _ (P : ℕ → ℕ → Type 0) where
   tells_no : {A : Type 0} (r : Result A Fault) → NoEscape r → Tells r P
   tells_no (Ok x) h = tt
-  tells_no (Err f) h = λ i n e. absurd (let w = ap escape_cell e in let z : ◌≡◌ {A = ℕ} 0 1 = cc in omega arith)
+  tells_no (Err f) h = λ i n e. absurd cc
 
-  tells_judge : {A : Type 0} (b : Bool) (f : Refusal) (r : Result A Fault) → escape_cell (plain f) ≡ None → Tells r P → Tells (judge b f r) P
-  tells_judge true f r e h = h
-  tells_judge {A} false f r e h = tells_no {A = A} (Err (plain f)) e
+  tells_judge : {A : Type 0} (b : Bool) (f : Refusal) (r : Result A Fault) → Tells r P → Tells (judge b f r) P
+  tells_judge true f r h = h
+  tells_judge false f r h = λ i n e. absurd cc
 
   tells_full : {A : Type 0} (o : Option Piece) (k : Piece → Result A Fault) → ((x : Piece) → o ≡ Some x → Tells (k x) P) → Tells (full o k) P
-  tells_full {A} None k h = tells_no {A = A} (Err (plain Model.empty_cell)) refl
+  tells_full None k h = λ i n e. absurd cc
   tells_full (Some x) k h = h x refl
 
   tells_lawful : {A B : Type 0} (o : Option B) (k : B → Result A Fault) → ((x : B) → Tells (k x) P) → Tells (lawful o k) P
-  tells_lawful {A} None k h = tells_no {A = A} (Err (plain bad_argument)) refl
+  tells_lawful None k h = λ i n e. absurd cc
   tells_lawful (Some x) k h = h x
 
   tells_usable : {A : Type 0} (st : State) (i : ℕ) (x : Piece) (r : Result A Fault) → (ClosedOff st x → P i (length (escaping st.open_binders x.names))) → (AllOpen st.open_binders x.names → Tells r P) → Tells (usable st i x r) P
@@ -310,51 +245,51 @@ module _ (output : Sheet) (st : State) (h : Sound st) where
   before_more k ks a more j i = ⊎_elim (λ e. subst CanFinish (sym e) a) (more j) (in_cons i)
 
   tells_call : (c : Call) → Tells (does stated output st c) (FirstUnfinishable st c)
-  tells_call (call.Num c n) = tells_no _ (does stated output st (call.Num c n)) (quiet output st (call.Num c n) refl)
-  tells_call (call.Truth c b) = tells_no _ (does stated output st (call.Truth c b)) (quiet output st (call.Truth c b) refl)
-  tells_call (call.Input c i) = tells_no _ (does stated output st (call.Input c i)) (quiet output st (call.Input c i) refl)
-  tells_call (call.Fun c p) = tells_no _ (does stated output st (call.Fun c p)) (quiet output st (call.Fun c p) refl)
-  tells_call (call.Copy c a) = tells_no _ (does stated output st (call.Copy c a)) (quiet output st (call.Copy c a) refl)
-  tells_call (call.Clear c) = tells_no _ (does stated output st (call.Clear c)) (quiet output st (call.Clear c) refl)
-  tells_call call.Mark = tells_no _ (does stated output st call.Mark) (quiet output st call.Mark refl)
-  tells_call call.Finish = tells_no _ (does stated output st call.Finish) (quiet output st call.Finish refl)
-  tells_call call.Leave = tells_no _ (does stated output st call.Leave) (quiet output st call.Leave refl)
+  tells_call (call.Num c n) = tells_no _ _ (quiet output st (call.Num c n) refl)
+  tells_call (call.Truth c b) = tells_no _ _ (quiet output st (call.Truth c b) refl)
+  tells_call (call.Input c i) = tells_no _ _ (quiet output st (call.Input c i) refl)
+  tells_call (call.Fun c p) = tells_no _ _ (quiet output st (call.Fun c p) refl)
+  tells_call (call.Copy c a) = tells_no _ _ (quiet output st (call.Copy c a) refl)
+  tells_call (call.Clear c) = tells_no _ _ (quiet output st (call.Clear c) refl)
+  tells_call call.Mark = tells_no _ _ (quiet output st call.Mark refl)
+  tells_call call.Finish = tells_no _ _ (quiet output st call.Finish refl)
+  tells_call call.Leave = tells_no _ _ (quiet output st call.Leave refl)
   tells_call (call.Let c a) =
       let P = FirstUnfinishable st (call.Let c a) in
-      tells_made P _ (tells_judge P (ltb c 16 && ltb a 16) _ _ refl (tells_full P (cell st a) _ λ x ex.
-      tells_usable P st a x _ (doomed_at (call.Let c a) [] [] a x refl before_none ex) λ _. tells_no P _ (no_opened st c (bound st.next x))))
+      tells_made P _ (tells_judge P (ltb c 16 && ltb a 16) _ _ (tells_full P (cell st a) _ λ x ex.
+      tells_usable P st a x _ (doomed_at (call.Let c a) [] [] a x refl before_none ex) λ _. tells_no P (opened stated st c (bound st.next x)) (search rules)))
   tells_call (call.Close c a) =
       let P = FirstUnfinishable st (call.Close c a) in
-      tells_made P _ (tells_judge P (ltb c 16 && ltb a 16) _ _ refl (tells_full P (cell st a) _ λ x ex.
-      tells_usable P st a x _ (doomed_at (call.Close c a) [] [] a x refl before_none ex) λ _. tells_no P _ (no_close st c x st.open_binders)))
+      tells_made P _ (tells_judge P (ltb c 16 && ltb a 16) _ _ (tells_full P (cell st a) _ λ x ex.
+      tells_usable P st a x _ (doomed_at (call.Close c a) [] [] a x refl before_none ex) λ _. tells_no P (close_latest stated st c x st.open_binders) (search rules)))
   tells_call (call.Join c o a b) =
       let P = FirstUnfinishable st (call.Join c o a b) in
-      tells_made P _ (tells_judge P (ltb c 16 && ltb a 16 && ltb b 16) _ _ refl (tells_lawful P (operator o) _ λ op.
+      tells_made P _ (tells_judge P (ltb c 16 && ltb a 16 && ltb b 16) _ _ (tells_lawful P (operator o) _ λ op.
       tells_full P (cell st a) _ λ x ex. tells_full P (cell st b) _ λ y ey.
       tells_usable P st a x _ (doomed_at (call.Join c o a b) [] (b ∷ []) a x refl before_none ex) λ ox.
       tells_usable P st b y _ (doomed_at (call.Join c o a b) (a ∷ []) [] b y refl (before_more a [] (can_finish a x ex ox) before_none) ey) λ _.
-      tells_no P (join_rest st c op x y) (no_typed (joined op x.type y.type) _ (λ t. no_judge (leb (1 + x.size + y.size) 4096) _ _ refl tt))))
+      tells_no P (join_rest st c op x y) (search rules)))
   tells_call (call.Choose c a b d) =
       let P = FirstUnfinishable st (call.Choose c a b d) in
-      tells_made P _ (tells_judge P (ltb c 16 && ltb a 16 && ltb b 16 && ltb d 16) _ _ refl (
+      tells_made P _ (tells_judge P (ltb c 16 && ltb a 16 && ltb b 16 && ltb d 16) _ _ (
       tells_full P (cell st a) _ λ x ex. tells_full P (cell st b) _ λ y ey. tells_full P (cell st d) _ λ z ez.
       tells_usable P st a x _ (doomed_at (call.Choose c a b d) [] (b ∷ d ∷ []) a x refl before_none ex) λ ox.
       tells_usable P st b y _ (doomed_at (call.Choose c a b d) (a ∷ []) (d ∷ []) b y refl (before_more a [] (can_finish a x ex ox) before_none) ey) λ oy.
       tells_usable P st d z _ (doomed_at (call.Choose c a b d) (a ∷ b ∷ []) [] d z refl (before_more a (b ∷ []) (can_finish a x ex ox) (before_more b [] (can_finish b y ey oy) before_none)) ez) λ _.
-      tells_no P (choose_rest st c x y z) (no_typed (chosen x.type y.type z.type) _ (λ t. no_judge (leb (1 + x.size + y.size + z.size) 4096) _ _ refl tt))))
+      tells_no P (choose_rest st c x y z) (search rules)))
   tells_call (call.Apply c f a) =
       let P = FirstUnfinishable st (call.Apply c f a) in
-      tells_made P _ (tells_judge P (ltb c 16 && ltb f 16 && ltb a 16) _ _ refl (
+      tells_made P _ (tells_judge P (ltb c 16 && ltb f 16 && ltb a 16) _ _ (
       tells_full P (cell st f) _ λ x ex. tells_full P (cell st a) _ λ y ey.
       tells_usable P st f x _ (doomed_at (call.Apply c f a) [] (a ∷ []) f x refl before_none ex) λ ox.
       tells_usable P st a y _ (doomed_at (call.Apply c f a) (f ∷ []) [] a y refl (before_more f [] (can_finish f x ex ox) before_none) ey) λ _.
-      tells_no P (apply_rest st c x y) (no_typed (applied x.type y.type) _ (λ t. no_judge (leb (1 + x.size + y.size) 4096) _ _ refl tt))))
+      tells_no P (apply_rest st c x y) (search rules)))
   tells_call (call.Print a) =
       let P = FirstUnfinishable st (call.Print a) in
-      tells_kept P st _ (tells_judge P (ltb a 16 && leb output.at (length output.bytes)) _ _ refl (tells_full P (cell st a) _ λ x ex.
+      tells_kept P st _ (tells_judge P (ltb a 16 && leb output.at (length output.bytes)) _ _ (tells_full P (cell st a) _ λ x ex.
       tells_usable P st a x _ (doomed_at (call.Print a) [] [] a x refl before_none ex) λ _.
       tells_no P (judge (eqb (length x.names) 0) not_closed (judge (leb (output.at + length (line x)) (length output.bytes)) short_output (Ok (line x))))
-      (no_judge (eqb (length x.names) 0) _ _ refl (no_judge (leb (output.at + length (line x)) (length output.bytes)) _ _ refl tt))))
+      (search rules)))
 
 pub escape_first : EscapeFirst
 escape_first st grown output c i n e =

@@ -1,7 +1,8 @@
 -- Code that can be finished is finished by further calls, and printed.
-use Rattle.std.proofs.Common.{◌≡◌, ℕ, suc, ◌+◌, ◌<◌, ◌≤◌, ◌&&◌, eqb, leb, ◌≢◌, List, [], ◌∷◌, ◌++◌, length, get_or, set, replicate, pos, Some, None, Ok, Err, Option, Result, refl, ap, ◌∙◌, ⊎_elim, arith, length-set}
-use lib.ListN.{length-replicate}
-use Rattle.std.proofs.lemmas.Bool.{lt-ltb, le-leb, eq-eqb, cases_lt, false≢true}
+use Rattle.std.proofs.Common.{◌≡◌, ℕ, suc, ◌+◌, ◌<◌, ◌≤◌, ◌≢◌, List, [], ◌∷◌, ◌++◌, length, get_or, set, replicate, pos, Some, None, Ok, Option, Result, refl, ap, ◌∙◌, ⊎_elim, arith, rules, length-set}
+use Rattle.std.proofs.lemmas.Bool.{lt-ltb, le-leb, cases_lt, false≢true}
+use Rattle.std.proofs.lemmas.Bool.Decides.{nat_tests}
+use Rattle.std.proofs.lemmas.Grind.{common_steps}
 use Rattle.std.proofs.lemmas.List.{get_or-set_same, get_or-set_other, get_or_past}
 use Rattle.code.specs.declared.types.Base.{Base}
 use Rattle.code.specs.declared.types.Base.TheVariants.{Number, Truth}
@@ -35,9 +36,7 @@ and_then (step c e p) q = step c e (and_then p q)
 
 calls_of : {a b : State} → Reaches a b → (calls : List Call) × (granted_in_order unlimited a calls ≡ Some b)
 calls_of done = ([], refl)
-calls_of (step c e p) =
-    let r = calls_of p in
-    (c ∷ r.0, ap (λ (w : Result State Fault). elim w [ Ok s ↦ granted_in_order unlimited s r.0 | Err f ↦ None ]) e ∙ r.1)
+calls_of (step c e p) = let r = calls_of p in (c ∷ r.0, rw (e, granted_in_order) r.1)
 
 -- cell i holds a piece of this code and type, with all its names open
 record Ready (cells : List (Option Piece)) (bs : List Binder) (i : ℕ) (c : Code) (t : Ty) : Type 0 where
@@ -64,33 +63,21 @@ closed_after : {a b : State} {n i : ℕ} {c : Code} {t : Ty} → Reaches a b →
 closed_after p r = (r.0, led_after p r.1)
 
 usable_open : {A : Type 0} (st : State) (i : ℕ) (x : Piece) (r : Result A Fault) → AllOpen st.open_binders x.names → usable st i x r ≡ r
-usable_open st i x r all =
-    let n : ℕ = length (escaping st.open_binders x.names) in
-    λ k. judged (eq-eqb n 0 (none_escaping st.open_binders x.names all) k) (escaped i n) r
+usable_open st i x r all = rw (none_escaping st.open_binders x.names all)
 
 module _ (st : State) (i : ℕ) (li : i < 16) where
   -- a literal into a cell
   literal_call : (q : Base) → (c : Call) × (does unlimited (sheet [] 0) st c ≡ Ok (put st i (Some (record { code = literal q; type = Plain q; size = 1; names = [] }))))
-  literal_call Number = (call.Num i (pos 0), λ k. made None (judge (lt-ltb i 16 li k) bad_argument (into st i (record { code = literal Number; type = Plain Number; size = 1; names = [] }))))
-  literal_call Truth = (call.Truth i 0, λ k. made None (judge (lt-ltb i 16 li k) bad_argument (into st i (record { code = literal Truth; type = Plain Truth; size = 1; names = [] }))))
+  literal_call Number = (call.Num i (pos 0), rw (lt-ltb i 16 li))
+  literal_call Truth = (call.Truth i 0, rw (lt-ltb i 16 li))
 
   apply_call : (j : ℕ) (x y : Piece) (t : Ty) → j < 16 → cell st i ≡ Some x → cell st j ≡ Some y → AllOpen st.open_binders x.names → AllOpen st.open_binders y.names → applied x.type y.type ≡ Some t
       → does unlimited (sheet [] 0) st (call.Apply i i j) ≡ Ok (put st i (Some (record { code = Code.apply x.code y.code; type = t; size = 1 + x.size + y.size; names = merge x.names y.names })))
-  apply_call j x y t lj ex ey ox oy e =
-      (λ k. made None (judge (lt-ltb i 16 li k && lt-ltb i 16 li k && lt-ltb j 16 lj k) bad_argument (full (ex k) λ p. full (ey k) λ q. usable st i p (usable st j q (rest p q)))))
-      ∙ ap (made None) (usable_open st i x (usable st j y (rest x y)) ox ∙ usable_open st j y (rest x y) oy)
-      ∙ (λ k. made None (typed (e k) λ u. into st i (record { code = Code.apply x.code y.code; type = u; size = 1 + x.size + y.size; names = merge x.names y.names })))
-    where
-      rest : Piece → Piece → Result Plan Fault
-      rest p q = typed (applied p.type q.type) λ u. into st i (record { code = Code.apply p.code q.code; type = u; size = 1 + p.size + q.size; names = merge p.names q.names })
+  apply_call j x y t lj ex ey ox oy e = rw (lt-ltb i 16 li, lt-ltb j 16 lj, ex, ey, none_escaping st.open_binders x.names ox, none_escaping st.open_binders y.names oy, e)
 
   close_call : (x : Piece) (b : Binder) (rest : List Binder) → cell st i ≡ Some x → AllOpen st.open_binders x.names → st.open_binders ≡ b ∷ rest → Model.floor st.marks ≤ length rest
       → does unlimited (sheet [] 0) st (call.Close i i) ≡ made None (closed_with unlimited st i x b rest)
-  close_call x b rest ex ox e l =
-      (λ k. made None (judge (lt-ltb i 16 li k && lt-ltb i 16 li k) bad_argument (full (ex k) λ p. usable st i p (close_latest unlimited st i p st.open_binders))))
-      ∙ ap (made None) (usable_open st i x (close_latest unlimited st i x st.open_binders) ox)
-      ∙ (λ k. made None (close_latest unlimited st i x (e k)))
-      ∙ (λ k. made None (judge (le-leb (Model.floor st.marks) (length rest) l k) no_binder (closed_with unlimited st i x b rest)))
+  close_call x b rest ex ox e l = rw (lt-ltb i 16 li, ex, none_escaping st.open_binders x.names ox, e, le-leb _ _ l)
 
 -- a piece put into a cell is there
 put_ready : (cells : List (Option Piece)) (bs : List Binder) (i : ℕ) (c : Code) (t : Ty) (z : ℕ) (names : List ℕ) → i < 16 → length cells ≡ 16 → AllOpen bs names
@@ -102,10 +89,6 @@ put_ready cells bs i c t z names l s all = record {
   holds = get_or-set_same cells i (Some (record { code = c; type = t; size = z; names = names })) None (omega arith);
   all_open = all;
 }
-
-applies : (q r : Base) → applied (Function q r) (Plain q) ≡ Some (Plain r)
-applies Number r = refl
-applies Truth r = refl
 
 -- i is the cell, and j another
 module _ (n i j : ℕ) (li : i < 16) (lj : j < 16) (apart : i ≢ j) where
@@ -122,7 +105,7 @@ module _ (n i j : ℕ) (li : i < 16) (lj : j < 16) (apart : i ≢ j) where
         cells = set with_literal i (Some (record { code = Code.apply c (literal q); type = Plain r; size = 1 + w.size + 1; names = merge w.names [] }));
         reaches = step put_literal.0 put_literal.1
             (step (call.Apply i i j)
-            (apply_call (state with_literal bs ms n) i li j x lit (Plain r) lj (get_or-set_other cells j i (Some lit) None apart ∙ w.holds) (get_or-set_same cells j (Some lit) None l) w.all_open (λ s k. absurd (in_none k)) (applies q r))
+            (apply_call (state with_literal bs ms n) i li j x lit (Plain r) lj (get_or-set_other cells j i (Some lit) None apart ∙ w.holds) (get_or-set_same cells j (Some lit) None l) w.all_open (λ s k. absurd (in_none k)) (search rules))
             done);
         ready = put_ready with_literal bs i (Code.apply c (literal q)) (Plain r) (1 + w.size + 1) (merge w.names []) li sixteen
             (λ s k. ⊎_elim (w.all_open s) (λ m. absurd (in_none m)) (in_merge s w.names [] k));
@@ -156,7 +139,7 @@ module _ (n i j : ℕ) (li : i < 16) (lj : j < 16) (apart : i ≢ j) where
   unmark cells bs m (x ∷ ms) e h =
       ⊎_elim
       (λ l. let r = unmark cells bs m ms e (marked_more ms x (length bs) h.0 h.1) in
-      (r.0, step call.Finish (λ k. judge (le-leb (length bs) x (omega arith) k) still_open (Ok (state cells bs ms n))) r.1, r.2, r.3))
+      (r.0, step call.Finish (rw (le-leb (length bs) x (omega arith))) r.1, r.2, r.3))
       (λ l. (x ∷ ms, done, l, (l, h.1)))
       (cases_lt m x)
 
@@ -182,27 +165,7 @@ module _ (n i j : ℕ) (li : i < 16) (lj : j < 16) (apart : i ≢ j) where
   print_closed : (cells : List (Option Piece)) (ms : List ℕ) (c : Code) (t : Ty) → Ready cells [] i c t
       → print_plan (state cells [] ms n) i 0 (replicate (length (text [] c ++ (10 ∷ []))) 0) ≡ Ok (text [] c ++ (10 ∷ []))
   print_closed cells ms c t w =
-      (λ k. judge (lt-ltb i 16 li k && le-leb 0 (length output) (omega arith) k) bad_argument (full (w.holds k) λ p. usable st i p (rest p)))
-      ∙ usable_open st i x (rest x) w.all_open
-      ∙ (λ k. judge (eq-eqb (length w.names) 0 (ap length none) k) not_closed (judge (le-leb (0 + length line) (length output) (omega (arith, length-replicate {A = ℕ} (length line) 0)) k) short_output (Ok line)))
-    where
-      line : List ℕ
-      line = text [] c ++ (10 ∷ [])
-
-      output : List ℕ
-      output = replicate (length line) 0
-
-      st : State
-      st = state cells [] ms n
-
-      x : Piece
-      x = record { code = c; type = t; size = w.size; names = w.names }
-
-      none : w.names ≡ []
-      none = no_members w.names (λ s m. false≢true (w.all_open s m))
-
-      rest : Piece → Result (List ℕ) Fault
-      rest p = judge (eqb (length p.names) 0) not_closed (judge (leb (0 + length (text [] p.code ++ (10 ∷ []))) (length output)) short_output (Ok (text [] p.code ++ (10 ∷ []))))
+      rw (lt-ltb i 16 li, w.holds, no_members w.names (λ s m. false≢true (w.all_open s m))) (grind (arith, nat_tests, common_steps))
 
 another : (i : ℕ) → (j : ℕ) × (j < 16) × (i ≢ j)
 another ℕ.zero = (1, omega arith, omega arith)
@@ -210,7 +173,7 @@ another (suc i) = (0, omega arith, omega arith)
 
 cell_below : (st : State) (i : ℕ) (p : Piece) → Sound st → cell st i ≡ Some p → i < 16
 cell_below st i p h e =
-    ⊎_elim (λ l. l) (λ l. absurd (let q = get_or_past st.cells i None (omega (arith, h.sixteen)) in let z : ◌≡◌ {A = ℕ} 0 1 = cc in omega arith)) (cases_lt i 16)
+    ⊎_elim (λ l. l) (λ l. absurd (let q = get_or_past st.cells i None (omega (arith, h.sixteen)) in cc)) (cases_lt i 16)
 
 pub finishing : Finishing
 finishing st grown i p e f =

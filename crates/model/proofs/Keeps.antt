@@ -1,13 +1,11 @@
 -- What each call but MARK, FINISH and LEAVE does to the marks and the open binders.
-use Rattle.std.proofs.Common.{◌≡◌, ℕ, ◌+◌, ◌≤◌, ◌&&◌, ltb, leb, List, [], ◌∷◌, length, ℤ, None, Ok, Err, Result, refl}
+use Rattle.std.proofs.Common.{◌≡◌, ℕ, ◌+◌, ◌≤◌, ◌&&◌, ltb, leb, List, [], ◌∷◌, length, ℤ, None, Result, refl, rules}
 use Rattle.std.proofs.lemmas.Bool.{leb-true}
-use Rattle.code.specs.Code.{in_range32}
-use Rattle.code.specs.Typing.{joined, chosen, applied, abstracted}
-use Rattle.code.specs.Numbers.{operator, base}
+use Rattle.code.specs.Typing.{abstracted}
 use Rattle.model.specs.Model
 use Rattle.model.specs.Model.{State, Piece, Binder, parameter, bound, serial, Plan, Fault, stated, cell, opened, closed_with, close_latest, join_plan, choose_plan, apply_plan, fun_plan, let_plan, close_plan, copied, cleared}
 use Rattle.model.specs.Calls.{made, num_plan, truth_plan, input_plan, kept}
-use Rattle.model.proofs.Sound.{Granted, granted_judge, granted_full, granted_typed, granted_lawful, granted_usable, granted_made}
+use Rattle.model.proofs.Sound.{Granted, granted_judge, granted_full, granted_typed, granted_usable, granted_made}
 
 -- the marks stay; no binder is opened or closed, or one is opened with the next serial, or the latest is closed, above the latest mark
 pub data Keeps (st : State) : State → Type 0 where
@@ -20,24 +18,19 @@ module _ (st : State) (c : ℕ) where
   Made p = Keeps st p.after
 
   pub keeps_num : (n : ℤ) → Granted (made None (num_plan st c n)) (Keeps st)
-  keeps_num n = granted_made (Keeps st) _ (granted_judge Made (in_range32 n) _ _ λ _. granted_judge Made (ltb c 16) _ _ λ _. same refl refl refl)
+  keeps_num n = search (rules, same)
 
   pub keeps_truth : (b : ℕ) → Granted (made None (truth_plan st c b)) (Keeps st)
-  keeps_truth b = granted_made (Keeps st) _ (granted_judge Made (ltb b 2) _ _ λ _. granted_judge Made (ltb c 16) _ _ λ _. same refl refl refl)
+  keeps_truth b = search (rules, same)
 
   pub keeps_input : (i : ℕ) → Granted (made None (input_plan st c i)) (Keeps st)
-  keeps_input i = granted_made (Keeps st) _ (granted_judge Made (ltb i 8) _ _ λ _. granted_judge Made (ltb c 16) _ _ λ _. same refl refl refl)
-
-  keeps_opened : (b : Binder) → serial b ≡ st.next → Granted (opened stated st c b) Made
-  keeps_opened b e = granted_judge Made (ltb (length st.open_binders) 16) _ _ λ _. granted_judge Made (ltb st.next 4096) _ _ λ _. more b refl refl e refl
+  keeps_input i = search (rules, same)
 
   pub keeps_fun : (p : ℕ) → Granted (made None (fun_plan stated st c p)) (Keeps st)
-  keeps_fun p = granted_made (Keeps st) _ (granted_judge Made (ltb c 16) _ _ λ _. granted_lawful Made (base p) _ λ t _. keeps_opened (parameter st.next t) refl)
+  keeps_fun p = search (rules, more)
 
   pub keeps_let : (a : ℕ) → Granted (made None (let_plan stated st c a)) (Keeps st)
-  keeps_let a =
-      granted_made (Keeps st) _ (granted_judge Made (ltb c 16 && ltb a 16) _ _ λ _. granted_full Made (cell st a) _ λ x _. granted_usable Made st a x _ λ _.
-      keeps_opened (bound st.next x) refl)
+  keeps_let a = search (rules, more)
 
   keeps_closed_with : (x : Piece) (b : Binder) (rest : List Binder) → st.open_binders ≡ b ∷ rest → Model.floor st.marks ≤ length rest → Granted (closed_with stated st c x b rest) Made
   keeps_closed_with x (parameter s p) rest e l = granted_typed Made (abstracted p x.type) _ λ t _. granted_judge Made (leb (1 + x.size) 4096) _ _ λ _. fewer (parameter s p) refl e l refl
@@ -54,30 +47,19 @@ module _ (st : State) (c : ℕ) where
       keeps_latest x st.open_binders refl)
 
   pub keeps_copy : (a : ℕ) → Granted (copied stated st c a) (Keeps st)
-  keeps_copy a = granted_judge (Keeps st) (ltb c 16 && ltb a 16) _ _ λ _. granted_full (Keeps st) (cell st a) _ λ x _. same refl refl refl
+  keeps_copy a = search (rules, same)
 
   pub keeps_join : (o a b : ℕ) → Granted (made None (join_plan stated st c o a b)) (Keeps st)
-  keeps_join o a b =
-      granted_made (Keeps st) _ (granted_judge Made (ltb c 16 && ltb a 16 && ltb b 16) _ _ λ _. granted_lawful Made (operator o) _ λ op _.
-      granted_full Made (cell st a) _ λ x _. granted_full Made (cell st b) _ λ y _. granted_usable Made st a x _ λ _. granted_usable Made st b y _ λ _.
-      granted_typed Made (joined op x.type y.type) _ λ t _. granted_judge Made (leb (1 + x.size + y.size) 4096) _ _ λ _. same refl refl refl)
+  keeps_join o a b = search (rules, same)
 
   pub keeps_choose : (a b d : ℕ) → Granted (made None (choose_plan stated st c a b d)) (Keeps st)
-  keeps_choose a b d =
-      granted_made (Keeps st) _ (granted_judge Made (ltb c 16 && ltb a 16 && ltb b 16 && ltb d 16) _ _ λ _.
-      granted_full Made (cell st a) _ λ x _. granted_full Made (cell st b) _ λ y _. granted_full Made (cell st d) _ λ z _.
-      granted_usable Made st a x _ λ _. granted_usable Made st b y _ λ _. granted_usable Made st d z _ λ _.
-      granted_typed Made (chosen x.type y.type z.type) _ λ t _. granted_judge Made (leb (1 + x.size + y.size + z.size) 4096) _ _ λ _. same refl refl refl)
+  keeps_choose a b d = search (rules, same)
 
   pub keeps_apply : (f a : ℕ) → Granted (made None (apply_plan stated st c f a)) (Keeps st)
-  keeps_apply f a =
-      granted_made (Keeps st) _ (granted_judge Made (ltb c 16 && ltb f 16 && ltb a 16) _ _ λ _.
-      granted_full Made (cell st f) _ λ x _. granted_full Made (cell st a) _ λ y _. granted_usable Made st f x _ λ _. granted_usable Made st a y _ λ _.
-      granted_typed Made (applied x.type y.type) _ λ t _. granted_judge Made (leb (1 + x.size + y.size) 4096) _ _ λ _. same refl refl refl)
+  keeps_apply f a = search (rules, same)
 
   pub keeps_clear : Granted (cleared stated st c) (Keeps st)
-  keeps_clear = granted_judge (Keeps st) (ltb c 16) _ _ λ _. same refl refl refl
+  keeps_clear = search (rules, same)
 
 pub keeps_kept : {A : Type 0} (st : State) (r : Result A Fault) → Granted (kept st r) (Keeps st)
-keeps_kept st (Ok x) = same refl refl refl
-keeps_kept st (Err f) = tt
+keeps_kept st r = search (rules, same)

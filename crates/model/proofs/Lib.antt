@@ -1,6 +1,5 @@
 pub mod Numbers
 pub mod Binders
-pub mod Types
 pub mod Pieces
 pub mod Sound
 pub mod Keeps

@@ -1,18 +1,19 @@
 -- Sound pieces: what is true of a piece in a cell, and how each construct keeps it.
-use Rattle.std.proofs.Common.{◌≡◌, ℕ, suc, ◌+◌, ◌<◌, ◌≤◌, true, ◌&&◌, eqb, List, [], ◌∷◌, length, drop, Some, sym, refl, ◌∙◌, subst, ⊎_elim, arith}
-use Rattle.std.proofs.lemmas.Bool.{cond-true, eq-eqb, lt-ltb, false≢true}
+use Rattle.std.proofs.Common.{◌≡◌, ℕ, suc, ◌+◌, ◌<◌, ◌≤◌, true, ◌&&◌, List, [], ◌∷◌, length, drop, Some, sym, ◌∙◌, subst, ⊎_elim, arith, rules}
+use Rattle.std.proofs.lemmas.Bool.{lt-ltb}
+use Rattle.std.proofs.lemmas.Bool.Decides.{nat_tests}
 use Rattle.code.specs.declared.operator.Operator.{Operator}
 use Rattle.code.specs.declared.types.Base.{Base}
 use Rattle.code.specs.declared.types.Ty.{Ty}
 use Rattle.code.specs.Code.{Code, size, ranged}
 use Rattle.code.specs.Names.{merge, without, free, Ascending}
-use Rattle.code.specs.Typing.{Scope, type_of, type_in, then, joined, chosen, applied, abstracted}
+use Rattle.code.specs.Typing.{Scope, type_of, then, joined, chosen, applied, abstracted}
 use Rattle.code.specs.Members.{In}
 use Rattle.model.specs.Model.{Piece, Binder, parameter, bound, serial, variable_type, is_open}
 use Rattle.model.specs.Exact.{scope}
 use Rattle.code.proofs.NameLists.{in_none, in_cons, in_merge, in_without, ascending_merge, ascending_without, without_shorter}
 use Rattle.code.proofs.FreeNames.{free_ascending}
-use Rattle.model.proofs.Types.{weaken}
+use Rattle.code.proofs.TypeRules.{same_types}
 use Rattle.model.proofs.Binders.{AllOpen, open_later, open_cases, open_past, open_few}
 
 -- a piece under open binders, where the serials below next are given
@@ -35,9 +36,9 @@ abbrev pub Opens : List Binder → ℕ → Type 0
 Opens [] next = Unit {0}
 Opens (b ∷ bs) next = (serial b < next) × (Bound b bs × Opens bs (serial b))
 
-pub open_below : (bs : List Binder) (next s : ℕ) → Opens bs next → is_open bs s ≡ true → s < next
-open_below [] next s o h = absurd (false≢true h)
-open_below (b ∷ bs) next s o h = ⊎_elim (λ e. omega (arith, o.0)) (λ k. omega (arith, o.0, open_below bs (serial b) s o.1.1 k)) (open_cases b bs s h)
+open_below : (bs : List Binder) (next s : ℕ) → Opens bs next → is_open bs s ≡ true → s < next
+open_below [] next s o h = absurd cc
+open_below (b ∷ bs) next s o h = grind (arith, nat_tests, o.0, open_below bs (serial b) s o.1.1)
 
 pub opens_more : (bs : List Binder) (m n : ℕ) → m ≤ n → Opens bs m → Opens bs n
 opens_more [] m n l o = tt
@@ -50,6 +51,10 @@ opens_drop (suc k) (b ∷ bs) n o = opens_drop k bs n (opens_more bs (serial b) 
 
 pub names_ascending : (bs : List Binder) (n : ℕ) (x : Piece) → Good bs n x → Ascending 0 x.names
 names_ascending bs n x g = subst (Ascending 0) (sym g.named) (free_ascending x.code)
+
+-- a name that is not free in a code has no part in its type
+weaken : (c : Code) (g : Scope) (x : ℕ) (t : Ty) → (In x (free c) → ⊥) → type_of ((x, t) ∷ g) c ≡ type_of g c
+weaken c g x t new = same_types c ((x, t) ∷ g) g (λ s i. grind (arith, nat_tests, new))
 
 -- a binder with a new serial leaves a good piece good
 pub good_opened : (b : Binder) (bs : List Binder) (n : ℕ) (p : Piece) → serial b ≡ n → Good bs n p → Good (b ∷ bs) (n + 1) p
@@ -89,35 +94,17 @@ good_drop (suc k) [] n m p o g = g
 good_drop (suc k) (b ∷ bs) n m p o g = good_drop k bs n (serial b) p o.1.1 (good_closed b bs n p o.1.1 g)
 
 pub good_leaf : (bs : List Binder) (n : ℕ) (c : Code) (t : Ty) → size c ≡ 1 → free c ≡ [] → ranged c ≡ true → ((g : Scope) → type_of g c ≡ Some t) → Good bs n (record { code = c; type = t; size = 1; names = [] })
-good_leaf bs n c t z f r ty = record {
-  sized = sym z;
-  small = omega arith;
-  named = sym f;
-  below = λ s i. absurd (in_none i);
-  few = omega arith;
-  in_range = r;
-  typed = λ _. ty (scope bs);
-}
+good_leaf bs n c t z f r ty = search (rules, in_none, ty)
 
 pub good_variable : (b : Binder) (bs : List Binder) (n : ℕ) → serial b ≡ n → n < 4096 → Good (b ∷ bs) (n + 1) (record { code = Code.variable n; type = variable_type b; size = 1; names = n ∷ [] })
-good_variable b bs n e l = record {
-  sized = refl;
-  small = omega arith;
-  named = refl;
-  below = λ s i. ⊎_elim (λ q. omega arith) (λ j. absurd (in_none j)) (in_cons i);
-  few = omega arith;
-  in_range = lt-ltb n 4096 l;
-  typed = λ _. cond-true (eqb (serial b) n) (Some (variable_type b)) (type_in (scope bs) n) (eq-eqb (serial b) n e);
-}
+good_variable b bs n e l = search (rules, nat_tests, in_none, in_cons)
 
 module _ (bs : List Binder) (n : ℕ) (x y : Piece) (gx : Good bs n x) (gy : Good bs n y) (ox : AllOpen bs x.names) (oy : AllOpen bs y.names) (small : 1 + x.size + y.size ≤ 4096) (deep : length bs ≤ 16) where
   below_both : (s : ℕ) → In s (merge x.names y.names) → s < n
-  below_both s i = ⊎_elim (gx.below s) (gy.below s) (in_merge s x.names y.names i)
+  below_both s i = search (rules, in_merge, gx.below, gy.below)
 
   few_both : length (merge x.names y.names) ≤ 16
-  few_both =
-      let l = open_few bs (merge x.names y.names) (ascending_merge 0 x.names y.names (names_ascending bs n x gx) (names_ascending bs n y gy)) (λ s i. ⊎_elim (ox s) (oy s) (in_merge s x.names y.names i)) in
-      omega arith
+  few_both = omega (arith, open_few bs (merge x.names y.names) (ascending_merge 0 _ _ (names_ascending bs n x gx) (names_ascending bs n y gy)) (search (rules, in_merge, ox, oy)))
 
   pub good_join : (o : Operator) (t : Ty) → joined o x.type y.type ≡ Some t → Good bs n (record { code = Code.join o x.code y.code; type = t; size = 1 + x.size + y.size; names = merge x.names y.names })
   good_join o t e = record {
@@ -146,12 +133,14 @@ good_choose bs n x y z gx gy gz ox oy oz small deep t e = record {
   sized = λ i. 1 + gx.sized i + gy.sized i + gz.sized i;
   small = small;
   named = λ i. merge (gx.named i) (merge (gy.named i) (gz.named i));
-  below = λ s i. ⊎_elim (gx.below s) (λ j. ⊎_elim (gy.below s) (gz.below s) (in_merge s y.names z.names j)) (in_merge s x.names (merge y.names z.names) i);
+  below = λ s i. search (rules, in_merge, gx.below, gy.below, gz.below);
   few =
-      let l = open_few bs (merge x.names (merge y.names z.names))
-      (ascending_merge 0 x.names (merge y.names z.names) (names_ascending bs n x gx) (ascending_merge 0 y.names z.names (names_ascending bs n y gy) (names_ascending bs n z gz)))
-      (λ s i. ⊎_elim (ox s) (λ j. ⊎_elim (oy s) (oz s) (in_merge s y.names z.names j)) (in_merge s x.names (merge y.names z.names) i)) in
-      omega arith;
+      omega (
+        arith,
+        open_few bs (merge x.names (merge y.names z.names))
+            (ascending_merge 0 _ _ (names_ascending bs n x gx) (ascending_merge 0 _ _ (names_ascending bs n y gy) (names_ascending bs n z gz)))
+            (search (rules, in_merge, ox, oy, oz)),
+      );
   in_range = λ i. gx.in_range i && gy.in_range i && gz.in_range i;
   typed = λ _. (λ i. then (gx.typed ox i) (λ c. then (gy.typed oy i) (λ u. then (gz.typed oz i) (chosen c u)))) ∙ e;
 }
@@ -174,10 +163,12 @@ good_let bs n s e x m l b g all small deep = record {
   named = λ i. merge (b.0.named i) (without s (g.named i));
   below = λ y i. ⊎_elim (λ j. omega (arith, b.0.below y j)) (λ j. g.below y (in_without y s x.names j).0) (in_merge y e.names (without s x.names) i);
   few =
-      let f = open_few bs (merge e.names (without s x.names))
-      (ascending_merge 0 e.names (without s x.names) (names_ascending bs s e b.0) (ascending_without 0 s x.names (names_ascending (bound s e ∷ bs) n x g)))
-      (λ y i. ⊎_elim (b.1 y) (open_past (bound s e) bs x.names all y) (in_merge y e.names (without s x.names) i)) in
-      omega arith;
+      omega (
+        arith,
+        open_few bs (merge e.names (without s x.names))
+            (ascending_merge 0 _ _ (names_ascending bs s e b.0) (ascending_without 0 s x.names (names_ascending (bound s e ∷ bs) n x g)))
+            (search (rules, in_merge, b.1, open_past (bound s e) bs x.names all)),
+      );
   in_range = λ i. lt-ltb s 4096 l i && b.0.in_range i && g.in_range i;
   typed = λ _. (λ i. then (b.0.typed b.1 i) (λ u. type_of ((s, u) ∷ scope bs) x.code)) ∙ g.typed all;
 }

@@ -1,11 +1,13 @@
 -- What is true of the generator's state after any calls.
-use Rattle.std.proofs.Common.{◌≡◌, ℕ, suc, ◌+◌, ◌-◌, ◌<◌, ◌≤◌, Bool, true, false, ◌&&◌, eqb, ltb, leb, ◌⊎◌, List, [], ◌∷◌, length, get_or, drop, set, replicate, Some, None, Ok, Err, Option, Result, refl, ◌∙◌, subst, inl, inr, ⊎_elim, arith, length-drop, length-set}
+use Rattle.std.proofs.Common.{◌≡◌, ℕ, suc, ◌+◌, ◌-◌, ◌<◌, ◌≤◌, Bool, true, false, ◌&&◌, eqb, ltb, leb, List, [], ◌∷◌, length, drop, Some, None, Ok, Err, Option, Result, refl, ◌∙◌, subst, ⊎_elim, arith, rules, length-drop, length-set}
+use Rattle.std.proofs.lemmas.Grind.{common_steps}
+use Rattle.std.proofs.lemmas.Option.{same_Some}
 use Rattle.std.proofs.lemmas.Bool.{leb-true, ltb-true, eqb-true}
 use Rattle.code.specs.declared.types.Base.TheVariants.{Number, Truth}
 use Rattle.code.specs.declared.types.Ty.{Ty}
 use Rattle.code.specs.declared.types.Ty.TheVariants.{Plain}
 use Rattle.code.specs.Code.{Code, in_range32}
-use Rattle.code.specs.Numbers.{operator, base}
+use Rattle.code.specs.Numbers.{operator}
 use Rattle.model.specs.Model
 use Rattle.model.specs.Model.{State, Piece, Binder, parameter, bound, serial, Plan, Refusal, Fault, plain, stated, cell, put, judged, judge, full, typed, lawful, usable, escaping, opened, closed_with, close_latest, finish_mark, leave_mark, print_plan}
 use Rattle.model.specs.Calls.{Sheet, made, Deed, makes, moves, prints, deed, settled, does, kept}
@@ -72,32 +74,21 @@ granted_made P (Ok p) h = h
 granted_made P (Err f) h = tt
 
 sound_made : (r : Result Plan Fault) → Granted r Made → Granted (made None r) Sound
-sound_made (Ok p) h = h.0
-sound_made (Err f) h = tt
-
-in_set : (xs : List (Option Piece)) (c i : ℕ) (o : Option Piece) (p : Piece) → get_or (set xs c o) i None ≡ Some p → (o ≡ Some p) ⊎ (get_or xs i None ≡ Some p)
-in_set [] c i o p h = inr h
-in_set (x ∷ xs) ℕ.zero ℕ.zero o p h = inl h
-in_set (x ∷ xs) ℕ.zero (suc i) o p h = inr h
-in_set (x ∷ xs) (suc c) ℕ.zero o p h = inr h
-in_set (x ∷ xs) (suc c) (suc i) o p h = in_set xs c i o p h
+sound_made r h = search rules
 
 -- a good piece put into a cell, or none
 sound_put : (st : State) (c : ℕ) (o : Option Piece) → Sound st → ((p : Piece) → o ≡ Some p → Good st.open_binders st.next p) → Sound (put st c o)
 sound_put st c o h g = record {
   sixteen = length-set st.cells c o ∙ h.sixteen;
-  pieces = λ i p e. ⊎_elim (g p) (h.pieces i p) (in_set st.cells c i o p e);
+  pieces = λ i p e. ⊎_elim (g p) (h.pieces i p) (grind (arith, common_steps));
   binders = h.binders;
   marks = h.marks;
   serials = h.serials;
   deep = h.deep;
 }
 
-some_inj : {A : Type 0} (x y : A) → ◌≡◌ {A = Option A} (Some x) (Some y) → x ≡ y
-some_inj x y e = cc
-
 sound_copy : (st : State) (c : ℕ) (x : Piece) → Sound st → Good st.open_binders st.next x → Sound (put st c (Some x))
-sound_copy st c x h g = sound_put st c (Some x) h (λ p e. subst (Good st.open_binders st.next) (some_inj x p e) g)
+sound_copy st c x h g = sound_put st c (Some x) h (λ p e. subst (Good st.open_binders st.next) (same_Some x p e) g)
 
 sound_piece : (st : State) (c : ℕ) (x : Piece) → Sound st → Good st.open_binders st.next x → Sound (put st c (Some x)) × Good st.open_binders st.next x
 sound_piece st c x h g = (sound_copy st c x h g, g)
@@ -134,8 +125,7 @@ sound_opened st c b e bd h =
     sound_piece (record { cells = st.cells; open_binders = b ∷ bs; marks = st.marks; next = st.next + 1 }) c _ wide (good_variable b bs st.next e below)
 
 lower_marks : (ms : List ℕ) (n m : ℕ) → Marked ms n → Model.floor ms ≤ m → Marked ms m
-lower_marks [] n m h l = tt
-lower_marks (k ∷ ms) n m h l = (l, h.1)
+lower_marks ms n m h l = search rules
 
 sound_closed_with : (st : State) (c : ℕ) (x : Piece) (b : Binder) (rest : List Binder) → Bound b rest → serial b < st.next → st.next ≤ 4096
     → Sound (record { cells = st.cells; open_binders = rest; marks = st.marks; next = st.next })
@@ -159,8 +149,7 @@ sound_close cells (b ∷ rest) ms n c x h g all =
     (sound_fewer (state cells (b ∷ rest) ms n) 1 ms h (lower_marks ms (suc (length rest)) (length rest) h.marks (leb-true (Model.floor ms) (length rest) l))) g all
 
 sound_finish : (st : State) (ms : List ℕ) → Marked ms (length st.open_binders) → Sound st → Granted (finish_mark stated st ms) Sound
-sound_finish st [] m h = tt
-sound_finish st (k ∷ ms) m h = granted_judge Sound (leb (length st.open_binders) k) _ _ λ _. sound_marks st ms h (marked_more ms k (length st.open_binders) m.0 m.1)
+sound_finish st ms m h = search (rules, sound_marks, marked_more)
 
 sound_leave : (st : State) (ms : List ℕ) → Marked ms (length st.open_binders) → Sound st → Granted (leave_mark stated st ms) Sound
 sound_leave st [] m h = tt
@@ -169,8 +158,7 @@ sound_leave st (k ∷ ms) m h =
     (marked_more ms k (length (drop (length st.open_binders - k) st.open_binders)) (omega (arith, m.0, length-drop (length st.open_binders - k) st.open_binders)) m.1)
 
 sound_kept : {A : Type 0} (st : State) (r : Result A Fault) → Sound st → Granted (kept st r) Sound
-sound_kept st (Ok x) h = h
-sound_kept st (Err f) h = tt
+sound_kept st r h = search rules
 
 -- what each call comes to in a sound state: a good piece, and a sound state after it
 abbrev pub SoundDeed : Deed → Type 0
@@ -188,16 +176,12 @@ sound_deed output st (call.Truth c b) h =
 sound_deed output st (call.Input c i) h =
     granted_judge Made (ltb i 8) _ _ λ l. granted_judge Made (ltb c 16) _ _ λ _.
     sound_piece st c _ h (good_leaf st.open_binders st.next (Code.input i) (Plain Number) refl refl l (λ g. refl))
-sound_deed output st (call.Fun c p) h =
-    granted_judge Made (ltb c 16) _ _ λ _. granted_lawful Made (base p) _ λ t _.
-    sound_opened st c (parameter st.next t) refl tt h
-sound_deed output st (call.Let c a) h =
-    granted_judge Made (ltb c 16 && ltb a 16) _ _ λ _. granted_full Made (cell st a) _ λ x e. granted_usable Made st a x _ λ all.
-    sound_opened st c (bound st.next x) refl (h.pieces a x e, all) h
+sound_deed output st (call.Fun c p) h = search (rules, sound_opened)
+sound_deed output st (call.Let c a) h = search (rules, sound_opened, h.pieces, escaping_none, eqb-true)
 sound_deed output st (call.Close c a) h =
     granted_judge Made (ltb c 16 && ltb a 16) _ _ λ _. granted_full Made (cell st a) _ λ x e. granted_usable Made st a x _ λ all.
     sound_close st.cells st.open_binders st.marks st.next c x h (h.pieces a x e) all
-sound_deed output st (call.Copy c a) h = granted_judge Sound (ltb c 16 && ltb a 16) _ _ λ _. granted_full Sound (cell st a) _ λ x e. sound_copy st c x h (h.pieces a x e)
+sound_deed output st (call.Copy c a) h = search (rules, sound_copy, h.pieces)
 sound_deed output st (call.Join c o a b) h =
     granted_judge Made (ltb c 16 && ltb a 16 && ltb b 16) _ _ λ _. granted_lawful Made (operator o) _ λ op _.
     granted_full Made (cell st a) _ λ x ex. granted_full Made (cell st b) _ λ y ey.
@@ -216,19 +200,14 @@ sound_deed output st (call.Apply c f a) h =
     granted_usable Made st f x _ λ ox. granted_usable Made st a y _ λ oy.
     granted_typed Made _ _ λ t e. granted_judge Made (leb (1 + x.size + y.size) 4096) _ _ λ small.
     sound_piece st c _ h (good_apply st.open_binders st.next x y (h.pieces f x ex) (h.pieces a y ey) ox oy (leb-true (1 + x.size + y.size) 4096 small) h.deep t e)
-sound_deed output st (call.Clear c) h = granted_judge Sound (ltb c 16) _ _ λ _. sound_put st c None h (λ p e. absurd (none≢some p e))
-  where
-    none≢some : (p : Piece) → ◌≡◌ {A = Option Piece} None (Some p) → ⊥
-    none≢some p e = let z : ◌≡◌ {A = ℕ} 0 1 = cc in omega arith
-sound_deed output st call.Mark h = granted_judge Sound (ltb (length st.marks) 8) _ _ λ _. sound_marks st (length st.open_binders ∷ st.marks) h (omega arith, h.marks)
+sound_deed output st (call.Clear c) h = search (rules, sound_put)
+sound_deed output st call.Mark h = search (rules, sound_marks, h.marks)
 sound_deed output st call.Finish h = sound_finish st st.marks h.marks h
 sound_deed output st call.Leave h = sound_leave st st.marks h.marks h
 sound_deed output st (call.Print a) h = tt
 
 sound_settled : (st : State) (d : Deed) → Sound st → SoundDeed d → Granted (settled st None d) Sound
-sound_settled st (makes r) h g = sound_made r g
-sound_settled st (moves r) h g = g
-sound_settled st (prints r) h g = sound_kept st r h
+sound_settled st d h g = search rules
 
 -- each call keeps a sound state sound
 pub sound_call : (output : Sheet) (st : State) (c : Call) → Sound st → Granted (does stated output st c) Sound
@@ -238,11 +217,6 @@ sound_after : (st : State) (r : Result State Fault) → Sound st → Granted r S
 sound_after st (Ok s) h g = g
 sound_after st (Err f) h g = h
 
-cells_fresh : (n i : ℕ) (p : Piece) → get_or {A = Option Piece} (replicate n None) i None ≡ Some p → ⊥
-cells_fresh ℕ.zero i p e = let z : ◌≡◌ {A = ℕ} 0 1 = cc in omega arith
-cells_fresh (suc n) ℕ.zero p e = let z : ◌≡◌ {A = ℕ} 0 1 = cc in omega arith
-cells_fresh (suc n) (suc i) p e = cells_fresh n i p e
-
 pub grown_sound : {st : State} → Grown st → Sound st
-grown_sound Finish.new = record { sixteen = refl; pieces = λ i p e. absurd (cells_fresh 16 i p e); binders = tt; marks = tt; serials = omega arith; deep = omega arith }
+grown_sound Finish.new = record { sixteen = refl; pieces = λ i p e. absurd (grind (arith, common_steps)); binders = tt; marks = tt; serials = omega arith; deep = omega arith }
 grown_sound (Finish.grows {st} output c g) = let h = grown_sound g in sound_after st (does stated output st c) h (sound_call output st c h)

@@ -1,4 +1,5 @@
-// The calls as data; the cell that receives comes first.
+// The calls as data; the cell that receives comes first. Cells, operators, types, truths and inputs are the numbers
+// that a caller gives: enums would ask more than a call that refuses what is out of range.
 #[derive(Clone, Copy)]
 pub enum Call {
     Num {

@@ -1,11 +1,14 @@
-use Rattle.std.proofs.Common.{◌≡◌, ◌≤◌, length, drop}
+use Rattle.std.proofs.Common.{◌≡◌, ◌-◌, ◌++◌, length}
 use Rattle.code.specs.Names.{merge, Ascending}
-use Rattle.code.proofs.Merges.{Written}
 use Rattle.code.proofs.names.Names.merge.Given as goal
 
-abbrev pub invariant-loop-count : goal.invariant-loop-count
-invariant-loop-count l =
-    (length l.serials ≡ 16)
-    × (l.left ≤ length l.a)
-    × (l.right ≤ length l.b)
-    × (Ascending 0 l.a → Ascending 0 l.b → Written l.serials l.count (merge (drop l.left l.a) (drop l.right l.b)) (merge l.a l.b))
+abbrev pub invariant-loop-merged : goal.invariant-loop-merged
+invariant-loop-merged l =
+    record {
+      joins : l.merged ++ merge l.left l.right ≡ merge l.self l.other;
+      left_up : Ascending 0 l.left;
+      right_up : Ascending 0 l.right;
+    }
+
+abbrev pub decreases-loop-merged : goal.decreases-loop-merged
+decreases-loop-merged l = 16 - length l.merged

@@ -1,24 +1,16 @@
-use Rattle.std.proofs.Common.{ap, ◌∙◌}
-use Rattle.code.specs.Names.{without}
-use Rattle.code.proofs.Merges.{counted, few_without, room_left, written_more, written_on, written_all, step_out, step_stays, step_done}
+use Rattle.std.proofs.Common.{ℕ, arith, ap, length, length-append}
+use Rattle.code.proofs.NameLists.{ascending_without, without_shorter}
+use Rattle.code.proofs.Merges.{step_stays}
+use Rattle.code.proofs.Layouts.{next_above}
 use Rattle.code.proofs.names.Names.without.Goals as goal
-use Rattle.code.proofs.names.Names.without.Goals.{then-name-serial, else-name-serial}
 
-pub bounds-serials-count : goal.bounds-serials-count
-bounds-serials-count c =
-    room_left c.loop-name.invariant (step_stays _ _ _ c.loop-name-test.true c.if-name-serial.true) (few_without _ c.args.serial c.as_slice-name-items.ensures.few)
+pub push-requires-clause-room : goal.push-requires-clause-room
+push-requires-clause-room c =
+    let next = step_stays c.args.serial _ _ c.loop-name-test.true c.if-name-serial.true in
+    omega (arith, length-append {A = ℕ}, ap length c.loop-name.invariant, ap length next, without_shorter c.args.serial c.args.self.now, ap length c.as_slice-name-items.ensures.value, c.as_slice-name-items.ensures.few)
 
-pub loop-name-preserved : goal.loop-name-preserved
-loop-name-preserved c =
-    elim c.if-name-serial.branch [
-      | then-name-serial w ↦
-          let next = step_stays _ _ _ c.loop-name-test.true w.if-name-serial.true in
-          rw (w.serials-is, w.count-is) (written_more c.loop-name.invariant next (room_left c.loop-name.invariant next (few_without _ c.args.serial c.as_slice-name-items.ensures.few)))
-      | else-name-serial w ↦
-          rw (w.serials-is, w.count-is) (written_on c.loop-name.invariant (step_out _ _ _ c.loop-name-test.true w.if-name-serial.false))
-    ]
-
-pub returns : goal.returns
-returns c =
-    counted c.loop-name.serials c.loop-name.count c.loop-name.invariant.fits
-    ∙ written_all c.loop-name.invariant (step_done _ _ _ c.loop-name-test.false) ∙ ap (without c.args.serial) c.as_slice-name-items.ensures.value
+pub push-requires-clause-above : goal.push-requires-clause-above
+push-requires-clause-above c =
+    let next = step_stays c.args.serial _ _ c.loop-name-test.true c.if-name-serial.true in
+    let up = rw c.as_slice-name-items.ensures.value at c.as_slice-name-items.ensures.ascending in
+    next_above _ _ _ _ _ c.loop-name.invariant next (ascending_without 0 c.args.serial c.args.self.now up)

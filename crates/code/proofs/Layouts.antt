@@ -1,0 +1,32 @@
+-- Free names in their places, one more above them, and lists that a loop has written in part.
+use Rattle.std.proofs.Common.{◌≡◌, ℕ, suc, ◌+◌, ◌-◌, ◌<◌, List, [], ◌∷◌, ◌++◌, length, take, drop, set, replicate, sym, ap, ◌∙◌, arith, append_assoc}
+use Rattle.std.proofs.lemmas.Grind.{common_steps}
+use Rattle.std.proofs.lemmas.List.{length-set, take_more_set, drop-set-lt, drop_more}
+use Rattle.code.specs.Names.{Ascending}
+use Rattle.code.specs.Serials.{IsLaidOut}
+
+-- the front of an ascending list is ascending
+ascending_front : (n : ℕ) (xs ys : List ℕ) → Ascending n (xs ++ ys) → Ascending n xs
+ascending_front n [] ys up = tt
+ascending_front n (x ∷ xs) ys up = (up.0, ascending_front (suc x) xs ys up.1)
+
+-- one name more, above the others
+pub laid_more : (serials : List ℕ) (count s : ℕ) → IsLaidOut serials count → count < 16 → Ascending 0 (take count serials ++ s ∷ []) → IsLaidOut (set serials count s) (count + 1)
+laid_more serials count s laid room above =
+    let lt : count < length serials = omega (arith, laid.sixteen) in
+    let fewer : 16 - count ≡ suc (16 - (count + 1)) = omega arith in
+    record {
+      sixteen = length-set serials count s ∙ laid.sixteen;
+      few = omega arith;
+      ascending = rw (take_more_set serials count s lt) above;
+      blank =
+          drop-set-lt (count + 1) serials count s (omega arith) ∙ ap (drop 1) (sym (drop_more serials count 0 lt) ∙ laid.blank) ∙ ap (λ (n : ℕ). drop 1 (replicate n 0)) fewer;
+    }
+
+-- the first of what is left is above what is written
+pub next_above : (front left rest whole : List ℕ) (x : ℕ) → front ++ left ≡ whole → left ≡ x ∷ rest → Ascending 0 whole → Ascending 0 (front ++ x ∷ [])
+next_above front left rest whole x joins next up = ascending_front 0 (front ++ x ∷ []) rest (rw (append_assoc, ← next, joins) up)
+
+-- the names are as many as are counted
+pub counted : (serials : List ℕ) (count : ℕ) (names : List ℕ) → IsLaidOut serials count → take count serials ≡ names → length names ≡ count
+counted serials count names laid view_is = grind (arith, common_steps)
