@@ -2,6 +2,5 @@ pub mod Meanings
 pub mod Rows
 pub mod Sizes
 pub mod Makes
-pub mod Memories
 pub mod Shares
 pub mod Sequences

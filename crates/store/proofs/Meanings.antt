@@ -1,11 +1,12 @@
 -- What a construct means where more handles are known.
-use Rattle.std.proofs.Common.{◌≡◌, Bool, true, false, cond, leb, Some, None, Ok, Err, Option, sym, refl, ap, ◌∙◌, rules}
+use Rattle.std.proofs.Common.{◌≡◌, ℕ, Bool, true, false, cond, leb, Some, None, Ok, Err, Option, Result, sym, refl, ap, ◌∙◌, rules}
 use Rattle.code.specs.declared.construct.Handle.{Handle}
 use Rattle.code.specs.declared.construct.Construct.{Construct}
 use Rattle.code.specs.declared.construct.Construct.TheVariants.{Number, Truth, Input, Variable, Join, Choose, Apply, Function, Let}
 use Rattle.code.specs.Code.{Code, size}
+use Rattle.store.specs.declared.meaning.StoreFault.{StoreFault}
 use Rattle.store.specs.declared.meaning.StoreFault.TheVariants.{BadArgument, TooLarge}
-use Rattle.store.specs.Meaning.{Codes, over1, over2, over3, meant, in_range, sized, wanted}
+use Rattle.store.specs.Meaning.{Codes, over1, over2, over3, meant, in_range, sized, wanted, Answers, Answered, Made}
 
 -- whatever f knows, g knows alike
 abbrev pub KnowsMore : Codes → Codes → Type 0
@@ -56,3 +57,15 @@ wanted_more f g x c more e =
     let p = wanted_meant f x c e in
     let q : meant g x ≡ meant f x = meant_more f g x c more p.1 ∙ sym p.1 in
     ap (λ (o : Option Code). cond (in_range x) (sized o) (Err BadArgument)) q ∙ e
+
+-- a handle that answers goes on answering where more is known
+pub answers_more : (f g : Codes) (x : Construct) (h : Handle) → KnowsMore f g → Answers f x h → Answers g x h
+answers_more f g x h more a = (a.0, wanted_more f g x a.0 more a.1, more h a.0 a.2)
+
+-- what was granted is answered
+pub made_answers : (f g : Codes) (had has : ℕ) (price priced : Code → ℕ) (x : Construct) (h : Handle) → Made f g had has price priced x (Ok h) → Answers g x h
+made_answers f g had has price priced x h made = by (wanted f x) refl made.ends
+  where
+    by : (w : Result Code StoreFault) → wanted f x ≡ w → Answered f g had has price w (Ok h) → Answers g x h
+    by (Err e) is none = absurd none
+    by (Ok c) is ends = (c, wanted_more f g x c made.kept is, ends.0)

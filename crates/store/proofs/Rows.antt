@@ -1,12 +1,15 @@
 -- What a row more does to what the handles stand for.
-use Rattle.std.proofs.Common.{◌≡◌, ℕ, ◌+◌, ◌<◌, List, [], ◌∷◌, ◌++◌, length, get_or, take, drop, Some, None, Option, sym, refl, ap, ◌∙◌, append_assoc, arith}
+use Rattle.std.proofs.Common.{◌≡◌, ℕ, ◌+◌, ◌<◌, ◌≤◌, ◌⊎◌, inl, inr, slice_get, List, [], ◌∷◌, ◌++◌, length, get_or, take, drop, Some, None, Option, sym, refl, ap, ◌∙◌, append_assoc, arith}
 use Rattle.std.proofs.lemmas.List.{get_or_append_left, get_or_push, length_push, append-nil, take_more, take-append-drop, length-take-le}
+use Rattle.std.proofs.lemmas.Bool.{cases_lt}
+use Rattle.std.proofs.lemmas.Option.{slice_get-get_or, slice_get_past}
 use Rattle.code.specs.declared.construct.Handle.{Handle}
-use Rattle.code.specs.Code.{Code}
+use Rattle.code.specs.Code.{Code, size}
 use Rattle.store.specs.declared.row.Row.{Row}
 use Rattle.store.specs.Meaning.{meant}
-use Rattle.store.specs.Ledger.{at, onto, rows_code}
-use Rattle.store.specs.LedgerLaw.{length_onto, known_within}
+use Rattle.store.specs.Sizes.{size_of}
+use Rattle.store.specs.Rows.{at, onto, rows_code, blank, RowSound, Sound, RowBehind}
+use Rattle.store.specs.RowsLaw.{length_onto, code_past, known_within}
 use Rattle.store.proofs.Meanings.{KnowsMore, meant_more}
 
 onto_push : (cs : List (Option Code)) (rows : List Row) (row : Row) → onto cs (rows ++ (row ∷ [])) ≡ onto cs rows ++ (meant (at (onto cs rows)) row.construct ∷ [])
@@ -64,3 +67,35 @@ code_is rows h d c e =
         ap (λ (l : List Row). rows_code l k) (sym (take-append-drop h.number rows))
         ∙ code_front (take h.number rows) (drop h.number rows) k (known_within (take h.number rows) k b is)
         ∙ is
+
+-- what stands at a handle's place is found there
+pub row_behind : (rows : List Row) (h : Handle) → Sound rows → RowBehind (rows_code rows) h (slice_get rows h.number)
+row_behind rows h v = by (cases_lt h.number (length rows))
+  where
+    by : (h.number < length rows) ⊎ (length rows ≤ h.number) → RowBehind (rows_code rows) h (slice_get rows h.number)
+    by (inl lt) =
+        let r = v.each h.number lt in
+        rw (slice_get-get_or rows h.number blank lt) (r.stands ∙ sym (code_is rows h blank r.code r.stands), ap size_of r.stands ∙ ap Some (sym r.sizes))
+    by (inr le) = rw (slice_get_past rows h.number le) (code_past rows h le)
+
+-- each row stays sound, and so is a new one that has its code's size
+pub sound_push : (rows : List Row) (row : Row) (c : Code) → Sound rows → meant (rows_code rows) row.construct ≡ Some c → row.size ≡ size c → size c ≤ 4096 → Sound (rows ++ (row ∷ []))
+sound_push rows row c v m z small = record { each = λ k lt. by k (omega (arith, length_push rows row)) (cases_lt k (length rows)) }
+  where
+    by : (k : ℕ) → k < length rows + 1 → (k < length rows) ⊎ (length rows ≤ k) → RowSound (rows ++ (row ∷ [])) k
+    by k lt (inl l) =
+        let r = v.each k l in
+        record {
+          code = r.code;
+          stands = code_older rows row (record { number = k }) l ∙ r.stands;
+          sizes = ap (λ (y : Row). y.size) (get_or_append_left rows (row ∷ []) blank k l) ∙ r.sizes;
+          small = r.small;
+        }
+    by k lt (inr l) =
+        let last : k ≡ length rows = omega arith in
+        record {
+          code = c;
+          stands = code_newest rows row (record { number = k }) last ∙ m;
+          sizes = ap (λ (y : Row). y.size) (get_or_push rows row blank k (sym last)) ∙ z;
+          small = small;
+        }

@@ -10,11 +10,12 @@ use Rattle.store.specs.declared.meaning.StoreFault.TheVariants.{BadArgument, Too
 use Rattle.store.specs.declared.sequence.Request.{Request}
 use Rattle.store.specs.declared.sequence.Request.TheVariants.{Make, Look}
 use Rattle.store.specs.declared.sequence.Answer.{Answer}
-use Rattle.store.specs.declared.sequence.Answer.TheVariants.{Granted, Refused, Shown, Unknown}
+use Rattle.store.specs.declared.sequence.Answer.TheVariants as answer
 use Rattle.store.specs.Meaning.{Codes, meant, in_range, sized, wanted, Answered, Made, Looked}
-use Rattle.store.specs.Sequence.{Moment, Told, ToldEach, Stands, AskedEach, no_request, no_answer}
+use Rattle.store.specs.Moment.{Moment}
+use Rattle.store.specs.Sequence.{Told, ToldEach, Stands, AskedEach, no_request, no_answer}
 use Rattle.store.specs.Sequence
-use Rattle.store.proofs.Meanings.{KnowsMore, meant_more, wanted_more}
+use Rattle.store.proofs.Meanings.{KnowsMore, meant_more, answers_more, made_answers}
 
 -- what is too large stays so where more is known
 large_more : (f g : Codes) (x : Construct) → KnowsMore f g → wanted f x ≡ Err TooLarge → wanted g x ≡ Err TooLarge
@@ -37,16 +38,14 @@ shown_more f g h x more e = by (f h) refl
 
 -- an answer that stands goes on standing where more is known
 stands_more : (f g : Codes) (r : Request) (a : Answer) → KnowsMore f g → Stands f r a → Stands g r a
-stands_more f g (Make x) (Granted h) more s = (s.0, wanted_more f g x s.0 more s.1, more h s.0 s.2)
-stands_more f g (Make x) (Refused BadArgument) more s = tt
-stands_more f g (Make x) (Refused TooLarge) more s = large_more f g x more s
-stands_more f g (Make x) (Refused (NoRoom w u)) more s = tt
-stands_more f g (Make x) (Shown y) more s = s
-stands_more f g (Make x) Unknown more s = s
-stands_more f g (Look h) (Granted k) more s = s
-stands_more f g (Look h) (Refused e) more s = s
-stands_more f g (Look h) (Shown x) more s = shown_more f g h x more s
-stands_more f g (Look h) Unknown more s = tt
+stands_more f g (Make x) (answer.Made (Ok h)) more s = answers_more f g x h more s
+stands_more f g (Make x) (answer.Made (Err BadArgument)) more s = tt
+stands_more f g (Make x) (answer.Made (Err TooLarge)) more s = large_more f g x more s
+stands_more f g (Make x) (answer.Made (Err (NoRoom w u))) more s = tt
+stands_more f g (Make x) (answer.Looked o) more s = s
+stands_more f g (Look h) (answer.Made r) more s = s
+stands_more f g (Look h) (answer.Looked None) more s = tt
+stands_more f g (Look h) (answer.Looked (Some x)) more s = shown_more f g h x more s
 
 made_units : (f g : Codes) (had has : ℕ) (price priced : Code → ℕ) (x : Construct) (r : Result Handle StoreFault) → Made f g had has price priced x r → has ≤ had
 made_units f g had has price priced x r made = by (wanted f x) r made.ends
@@ -59,21 +58,15 @@ made_units f g had has price priced x r made = by (wanted f x) r made.ends
     by (Ok c) (Err TooLarge) ends = absurd ends
     by (Ok c) (Err (NoRoom w u)) ends = omega (arith, ends.3.units)
 
-granted_stands : (f g : Codes) (had has : ℕ) (price priced : Code → ℕ) (x : Construct) (h : Handle) → Made f g had has price priced x (Ok h) → Stands g (Make x) (Granted h)
-granted_stands f g had has price priced x h made = by (wanted f x) refl made.ends
-  where
-    by : (w : Result Code StoreFault) → wanted f x ≡ w → Answered f g had has price w (Ok h) → Stands g (Make x) (Granted h)
-    by (Err e) is ends = absurd ends
-    by (Ok c) is ends = (c, wanted_more f g x c made.kept is, ends.0)
-
-refused_stands : (f g : Codes) (had has : ℕ) (price priced : Code → ℕ) (x : Construct) (e : StoreFault) → Made f g had has price priced x (Err e) → Stands g (Make x) (Refused e)
-refused_stands f g had has price priced x BadArgument made = tt
-refused_stands f g had has price priced x TooLarge made = by (wanted f x) refl made.ends
+made_stands : (f g : Codes) (had has : ℕ) (price priced : Code → ℕ) (x : Construct) (r : Result Handle StoreFault) → Made f g had has price priced x r → Stands g (Make x) (answer.Made r)
+made_stands f g had has price priced x (Ok h) made = made_answers f g had has price priced x h made
+made_stands f g had has price priced x (Err BadArgument) made = tt
+made_stands f g had has price priced x (Err TooLarge) made = by (wanted f x) refl made.ends
   where
     by : (w : Result Code StoreFault) → wanted f x ≡ w → Answered f g had has price w (Err TooLarge) → wanted g x ≡ Err TooLarge
     by (Err e) is ends = large_more f g x made.kept (is ∙ ap Err (sym ends.0))
     by (Ok c) is ends = absurd ends
-refused_stands f g had has price priced x (NoRoom w u) made = tt
+made_stands f g had has price priced x (Err (NoRoom w u)) made = tt
 
 -- what one answer comes to
 record GoesOn (m : Moment) (r : Request) (a : Answer) (n : Moment) : Type 0 where
@@ -87,16 +80,12 @@ unmoved m n r a same s =
     subst (λ (o : Moment). GoesOn m r a o) (sym same) (record { kept = λ h c is. is; units = omega arith; prices = λ c. refl; stands = s })
 
 goes_on : (m n : Moment) (r : Request) (a : Answer) → Told m r a n → GoesOn m r a n
-goes_on m n (Make x) (Granted h) t =
-    record { kept = t.kept; units = made_units _ _ _ _ _ _ x (Ok h) t; prices = t.prices; stands = granted_stands _ _ _ _ _ _ x h t }
-goes_on m n (Make x) (Refused e) t =
-    record { kept = t.kept; units = made_units _ _ _ _ _ _ x (Err e) t; prices = t.prices; stands = refused_stands _ _ _ _ _ _ x e t }
-goes_on m n (Make x) (Shown y) t = absurd t
-goes_on m n (Make x) Unknown t = absurd t
-goes_on m n (Look h) (Granted k) t = absurd t
-goes_on m n (Look h) (Refused e) t = absurd t
-goes_on m n (Look h) (Shown x) t = unmoved m n (Look h) (Shown x) t.1 t.0
-goes_on m n (Look h) Unknown t = unmoved m n (Look h) Unknown t.1 tt
+goes_on m n (Make x) (answer.Made r) t =
+    record { kept = t.kept; units = made_units _ _ _ _ _ _ x r t; prices = t.prices; stands = made_stands _ _ _ _ _ _ x r t }
+goes_on m n (Make x) (answer.Looked o) t = absurd t
+goes_on m n (Look h) (answer.Made r) t = absurd t
+goes_on m n (Look h) (answer.Looked None) t = unmoved m n (Look h) (answer.Looked None) t.1 tt
+goes_on m n (Look h) (answer.Looked (Some x)) t = unmoved m n (Look h) (answer.Looked (Some x)) t.1 t.0
 
 pub asked_none : (m : Moment) → AskedEach m [] [] m
 asked_none m =
@@ -130,6 +119,3 @@ asked_next m n o rs bs k a lr lb v t =
 -- what stands past the place is left
 pub rest_next : (bs cs : List Answer) (k : ℕ) (a : Answer) → drop k bs ≡ drop k cs → drop (k + 1) (set bs k a) ≡ drop (k + 1) cs
 rest_next bs cs k a e = drop-set-lt (k + 1) bs k a (omega arith) ∙ sym (drop-drop 1 k bs) ∙ ap (drop 1) e ∙ drop-drop 1 k cs
-
-pub asked_all : (m n : Moment) (rs : List Request) (bs : List Answer) (k l : ℕ) → k ≡ l → AskedEach m (take k rs) (take k bs) n → AskedEach m (take l rs) (take l bs) n
-asked_all m n rs bs k l e v = subst (λ (j : ℕ). AskedEach m (take j rs) (take j bs) n) e v

@@ -1,8 +1,14 @@
 pub mod Meaning
 pub mod Spending
 pub mod Search
+pub mod CodeLaw
+pub mod Sizes
+pub mod Rows
+pub mod RowsLaw
 pub mod Ledger
+pub mod LedgerLaw
+pub mod Moment
 pub mod Memory
+pub mod MemoryLaw
 pub mod Sharing
 pub mod Sequence
-pub mod LedgerLaw

@@ -62,6 +62,10 @@ sized (Some c) = cond (nat_le (size c) 4096) (Ok c) (Err TooLarge)
 abbrev pub wanted : Codes → Construct → Result Code StoreFault
 wanted code x = cond (in_range x) (sized (meant code x)) (Err BadArgument)
 
+-- a handle stands for the code that a make of the construct asks for
+abbrev pub Answers : Codes → Construct → Handle → Type 0
+Answers code x h = (c : Code) × (wanted code x ≡ Ok c) × (code h ≡ Some c)
+
 -- a refusal alters nothing
 pub record Unaltered (before after : Codes) (had has : ℕ) : Type 0 where
   pub codes : (h : Handle) → after h ≡ before h

@@ -18,11 +18,11 @@ pub enum StoreFault {
     NoRoom { wanted: usize, free: usize },
 }
 
-impl StoreFault {
-    pub fn refusal(self) -> Refusal
-        ensures { result ≡ refused_as self }
-    {
-        match self {
+impl From<StoreFault> for Refusal {
+    ghost from_gives = { λ fault refusal. refusal ≡ refused_as fault };
+
+    fn from(fault: StoreFault) -> Refusal {
+        match fault {
             StoreFault::BadArgument => Refusal::BadArgument,
             StoreFault::TooLarge => Refusal::TooLarge,
             StoreFault::NoRoom { .. } => Refusal::NoRoom,
@@ -31,9 +31,6 @@ impl StoreFault {
 }
 
 pub trait Store {
-    // what a store grown from a fresh one keeps
-    ghost valid: { Self → Type 0 };
-
     // the code that a handle stands for, none for an unknown handle
     ghost code: { Self → Handle → Option Code };
 
@@ -45,20 +42,16 @@ pub trait Store {
 
     // A handle that stands for the construct over the parts' codes.
     fn make(&mut self, construct: Construct) -> Result<Handle, StoreFault>
-        requires { valid self.old }
-        ensures stays { valid self.new }
         ensures made { Made (code self.old) (code self.new) (units self.old) (units self.new) (price self.old) (price self.new) construct result };
 
     // The outermost construct of a known handle, with handles for its parts.
     fn look(&self, handle: Handle) -> Option<Construct>
-        requires { valid self.now }
         ensures { Looked (code self.now) handle result };
 
     // The units left.
     fn free(&self) -> usize
-        requires { valid self.now }
         ensures { result ≡ units self.now };
 
     // no known code is larger than a store makes
-    ghost small: { (s : Self) (h : Handle) (c : Code) → valid s → code s h ≡ Some c → size c ≤ 4096 };
+    ghost small: { (s : Self) (h : Handle) (c : Code) → code s h ≡ Some c → size c ≤ 4096 };
 }

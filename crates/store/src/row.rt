@@ -2,7 +2,7 @@
 use code::construct::Construct;
 
 // A construct over the rows before it, and the size of the code that it stands for.
-#[derive(Clone, Copy)]
+#[derive(Clone, Copy, Debug, PartialEq, Eq)]
 pub struct Row {
     pub construct: Construct,
     pub size: u16,

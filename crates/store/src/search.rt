@@ -1,13 +1,14 @@
 // One search for every kind of entry whose sameness is an equivalence.
-ghost use Rattle.std.specs.Prelude.{Decides};
+ghost use Rattle.std.specs.Prelude.{◌↔◌, IsTrue};
 ghost use Rattle.store.specs.Search.{First};
 
+// A trait beside `Eq`: entries that count as the same may differ, as two requests answered by other handles.
 pub trait Sameness {
     // when two entries count as the same
     ghost same: { Self → Self → Type 0 };
 
     fn is_same(&self, other: &Self) -> bool
-        ensures { Decides result (same self.now other.now) };
+        ensures { IsTrue result ↔ same self.now other.now };
 
     ghost reflexive: { (x : Self) → same x x };
 
@@ -20,10 +21,5 @@ pub trait Sameness {
 pub fn find<E: Sameness>(entries: &[E], wanted: &E) -> Option<usize>
     ensures { First E.Sameness.same wanted.now entries.now result }
 {
-    for (place, entry) in entries.iter().enumerate() {
-        if entry.is_same(wanted) {
-            return Some(place);
-        }
-    }
-    None
+    entries.iter().position(|entry| entry.is_same(wanted))
 }

@@ -9,14 +9,10 @@ use code::types::Base;
 use std::process::Abort;
 use std::test::Fail;
 
-fn granted<S: Store>(store: &mut S, construct: Construct) -> Result<Handle, Fail>
-    requires { S.Store.valid store.old }
-    ensures { S.Store.valid store.new }
-{
-    match store.make(construct) {
-        Ok(handle) => Ok(handle),
-        Err(_) => Err(Fail::new("a make was refused")),
-    }
+fn granted<S: Store>(store: &mut S, construct: Construct) -> Result<Handle, Fail> {
+    store
+        .make(construct)
+        .map_err(|_| Fail::new("a make was refused"))
 }
 
 fn refused<S: Store>(
@@ -24,24 +20,16 @@ fn refused<S: Store>(
     store: &mut S,
     construct: Construct,
     wanted: StoreFault,
-) -> Result<(), Fail>
-    requires { S.Store.valid store.old }
-    ensures { S.Store.valid store.new }
-{
-    match store.make(construct) {
-        Ok(_) => Err(Fail::new("a make was granted")),
-        Err(fault) => {
-            assert!(rt; fault == wanted);
-            Ok(())
-        },
-    }
+) -> Result<(), Fail> {
+    let Err(fault) = store.make(construct) else {
+        return Err(Fail::new("a make was granted"));
+    };
+    assert!(rt; fault == wanted);
+    Ok(())
 }
 
 // A code joined with itself three times over.
-fn doubled_thrice<S: Store>(store: &mut S, code: Handle) -> Result<Handle, Fail>
-    requires { S.Store.valid store.old }
-    ensures { S.Store.valid store.new }
-{
+fn doubled_thrice<S: Store>(store: &mut S, code: Handle) -> Result<Handle, Fail> {
     let two = granted(store, Construct::Join(Operator::Add, code, code))?;
     let four = granted(store, Construct::Join(Operator::Add, two, two))?;
     granted(store, Construct::Join(Operator::Add, four, four))

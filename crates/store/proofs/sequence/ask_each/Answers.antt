@@ -1,26 +1,20 @@
-use Rattle.std.proofs.Common.{◌≡◌, ℕ, drop, refl, subst, arith}
-use Rattle.store.proofs.Sequences.{asked_none, asked_next, asked_all, rest_next}
+use Rattle.std.proofs.Common.{refl, arith}
+use Rattle.std.proofs.lemmas.List.{get_or-take, length-take-le}
+use Rattle.store.specs.Sequence.{no_request}
+use Rattle.store.proofs.Sequences.{asked_none, asked_next, rest_next}
 use Rattle.store.proofs.sequence.ask_each.Goals as goal
 
 pub loop-at-init : goal.loop-at-init
-loop-at-init g c = (c.requires, asked_none _, refl)
+loop-at-init g c = record { asked = asked_none _; rest = refl }
 
 pub loop-at-preserved : goal.loop-at-preserved
 loop-at-preserved g c =
-    let e = c.ask.ensures in
-    let inv = c.loop-at.invariant in (
-      e.stays,
-      asked_next _ _ _ c.args.requests.now c.loop-at.answers c.loop-at.at c.ask.result (omega arith) (omega arith) inv.1 e.told,
-      rest_next c.loop-at.answers c.args.answers.now c.loop-at.at c.ask.result inv.2,
-    )
-
-pub returns : goal.returns
-returns g c =
-    let inv = c.loop-at.invariant in
-    let all : c.loop-at.at ≡ c.min-count.result = omega arith in
+    let count = c.min-count.result in
+    let requests = c.args.requests.now in
+    let far = length-take-le count requests (omega arith) in
+    let told = rw (get_or-take count requests c.loop-at.at no_request (omega (arith, far))) at c.ask.ensures.told in
+    let before = c.loop-at.invariant in
     record {
-      stays = inv.0;
-      count = c.min-count.ensures;
-      asked = asked_all _ _ c.args.requests.now c.loop-at.answers c.loop-at.at c.min-count.result all inv.1;
-      rest = subst (λ (k : ℕ). drop k c.loop-at.answers ≡ drop k c.args.answers.now) all inv.2;
+      asked = asked_next _ _ _ requests c.loop-at.answers c.loop-at.at c.ask.result (omega (arith, far)) (omega (arith, far)) before.asked told;
+      rest = rest_next c.loop-at.answers c.args.answers.now c.loop-at.at c.ask.result before.rest;
     }
