@@ -4,7 +4,8 @@ use lib.Seq.{take-append-add, take-length}
 use borrow.Rule.Slice.PartMut.{put_mid}
 use Rattle.std.proofs.lemmas.List.{append-nil, length-take, length-drop, length-append, take-append-drop, take_all, take_at, take-append-le, take_more, flat_map_more, drop-drop, drop_all}
 use Rattle.std.proofs.lemmas.Bool.{cases_lt}
-use Rattle.text.specs.Page.{overlaid, Laid, after_blank, listed}
+use Rattle.text.specs.declared.page.Page.{Page}
+use Rattle.text.specs.Page.{overlaid, Laid, Writes, after_blank, listed}
 
 pub length_overlaid : (out : List ℕ) (at : ℕ) (text : List ℕ) → length (overlaid out at text) ≡ length out
 unfolding overlaid
@@ -36,45 +37,38 @@ overlaid_here : (x : ℕ) (out : List ℕ) (t : ℕ) (text : List ℕ) → overl
 unfolding overlaid
 overlaid_here x out t text = rw add-suc
 
--- one text after another
+-- laid where the text before ends
 pub overlaid_then : (out : List ℕ) (at : ℕ) (a b : List ℕ) → overlaid (overlaid out at a) (at + length a) b ≡ overlaid out at (a ++ b)
 overlaid_then [] at a b = ap (λ (l : List ℕ). overlaid l (at + length a) b) (overlaid_empty at a) ∙ overlaid_empty (at + length a) b ∙ sym (overlaid_empty at (a ++ b))
 overlaid_then (x ∷ out) (suc at) a b = rw (overlaid_later x out at a, suc-add, overlaid_later x (overlaid out at a)) (ap (λ (l : List ℕ). x ∷ l) (overlaid_then out at a b) ∙ sym (overlaid_later x out at (a ++ b)))
 overlaid_then (x ∷ out) ℕ.zero [] b = ap (λ (l : List ℕ). overlaid l 0 b) (overlaid_none (x ∷ out) 0)
 overlaid_then (x ∷ out) ℕ.zero (t ∷ a) b = rw (overlaid_here x out t a, add-suc, overlaid_later) (ap (λ (l : List ℕ). t ∷ l) (overlaid_then out 0 a b) ∙ sym (overlaid_here x out t (a ++ b)))
 
--- a place that no number reaches is past every slice
-overlaid_at : (out : List ℕ) (m n : ℕ) (text : List ℕ) → length out ≤ 2 ^ 64 - 1 → m ≡ min n (2 ^ 64 - 1) → overlaid out m text ≡ overlaid out n text
-overlaid_at out m n text small is =
-    elim (cases_lt (2 ^ 64 - 1) n) [
-      | inl h ↦ overlaid_past out m text (omega arith) ∙ sym (overlaid_past out n text (omega arith))
-      | inr h ↦ ap (λ (k : ℕ). overlaid out k text) (omega arith)
+-- two places past the output are the same to it
+overlaid_at : (out : List ℕ) (m n : ℕ) (text : List ℕ) → min m (length out) ≡ min n (length out) → overlaid out m text ≡ overlaid out n text
+overlaid_at out m n text is =
+    elim (cases_lt m (length out)) [
+      | inl h ↦ ap (λ (k : ℕ). overlaid out k text) (omega arith)
+      | inr h ↦ overlaid_past out m text (omega arith) ∙ sym (overlaid_past out n text (omega arith))
     ]
 
 pub laid_then : {o o1 o2 a b : List ℕ} {at m r : ℕ} → Laid o at a o1 m → Laid o1 m b o2 r → Laid o at (a ++ b) o2 r
 laid_then {o} {o1} {o2} {a} {b} {at} {m} {r} x y =
     record {
-      bytes = y.bytes ∙ overlaid_at o1 m (at + length a) b y.slice x.ends ∙ ap (λ (l : List ℕ). overlaid l (at + length a) b) x.bytes ∙ overlaid_then o at a b;
+      bytes = y.bytes ∙ overlaid_at o1 m (at + length a) b (omega (arith, x.ends, y.slice)) ∙ ap (λ (l : List ℕ). overlaid l (at + length a) b) x.bytes ∙ overlaid_then o at a b;
       ends = simp length-append (omega arith);
       slice = x.slice;
     }
-
-pub laid_none : {o : List ℕ} {at : ℕ} → at ≤ 2 ^ 64 - 1 → length o ≤ 2 ^ 64 - 1 → Laid o at [] o at
-laid_none {o} {at} place small = record { bytes = sym (overlaid_none o at); ends = omega arith; slice = small }
-
--- a text said otherwise
-pub laid_same : {o o1 a b : List ℕ} {at r : ℕ} → a ≡ b → Laid o at a o1 r → Laid o at b o1 r
-laid_same {o} {o1} {a} {b} {at} {r} e x = rw e at x
 
 -- one serial more
 pub listed_more : (serials : List ℕ) (i : ℕ) → i < length serials → listed (take i serials) ++ after_blank (get_or serials i 0) ≡ listed (take (i + 1) serials)
 listed_more serials i lt = flat_map_more after_blank [] (take i serials) (get_or serials i 0) ∙ ap listed (sym (take_more serials i 0 lt))
 
 -- what a copy of the front that fits leaves
-pub copied : (out : List ℕ) (at k : ℕ) (text part : List ℕ) → at < length out → k ≡ min (length text) (length out - at) → part ≡ take k text → put_mid at k out part ≡ overlaid out at text
+copied : (out : List ℕ) (at k : ℕ) (text : List ℕ) → at ≤ length out → k ≡ min (length text) (length out - at) → put_mid at k out (take k text) ≡ overlaid out at text
 unfolding overlaid
-copied out at k text part within fits is =
-    ap (λ (l : List ℕ). take at out ++ (part ++ l)) (drop-drop k at out) ∙ ap (λ (l : List ℕ). take at out ++ (l ++ drop (at + k) out)) is ∙
+copied out at k text within fits =
+    ap (λ (l : List ℕ). take at out ++ (take k text ++ l)) (drop-drop k at out) ∙
     elim (cases_lt (length text) (length out - at)) [
       | inl h ↦ rw (take_all k text (omega arith)) (let e : k ≡ length text = omega arith in rw e (sym (overlaid_fits out at text (omega arith))))
       | inr h ↦ (let rest = drop (at + length text) out in
@@ -83,3 +77,24 @@ copied out at k text part within fits is =
           sym (take-append-add (take at out) (text ++ rest) k) ∙
           ap (λ (n : ℕ). take n (take at out ++ (text ++ rest))) (simp length-take (omega arith)))
     ]
+
+-- the front of the text that fits, copied to the place, or to the output's end where that is nearer
+pub laid_copy : {out text part : List ℕ} {at start fits r : ℕ} → length out ≤ 2 ^ 64 - 1 → start ≡ min at (length out) → fits ≡ min (length text) (length out - start) → part ≡ take fits text → r ≡ min (at + length text) (2 ^ 64 - 1) → Laid out at text (put_mid start fits out part) r
+laid_copy {out} {text} {part} {at} {start} {fits} {r} slice starts fit front ends = record {
+  bytes = ap (put_mid start fits out) front ∙ copied out start fits text (omega arith) fit ∙ overlaid_at out start at text (omega arith);
+  ends = ends;
+  slice = slice;
+}
+
+-- nothing laid
+pub writes_none : {p : Page} → p.place ≤ 2 ^ 64 - 1 → length p.out.now ≤ 2 ^ 64 - 1 → Writes p [] p
+writes_none {p} place small = record { same_reference = refl; laid = record { bytes = sym (overlaid_none p.out.now p.place); ends = omega arith; slice = small } }
+
+-- one text after another
+infixl 60 ◌⨾◌
+pub ◌⨾◌ : {p q r : Page} {a b : List ℕ} → Writes p a q → Writes q b r → Writes p (a ++ b) r
+x ⨾ y = record { same_reference = y.same_reference ∙ x.same_reference; laid = laid_then x.laid y.laid }
+
+-- a text said otherwise
+pub writes_same : {p q : Page} {a b : List ℕ} → a ≡ b → Writes p a q → Writes p b q
+writes_same {p} {q} {a} {b} e x = rw e at x

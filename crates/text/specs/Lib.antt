@@ -1,2 +1,3 @@
 pub mod Page
+pub mod Around
 pub mod Printing

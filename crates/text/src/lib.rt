@@ -1,6 +1,7 @@
 //! Text: bytes laid over a lent output, and the text of a code in a store.
 #![tactic(auto)]
 
+mod around;
 pub mod page;
 pub mod printer;
-pub mod spelling;
+mod spelling;

@@ -1,64 +1,64 @@
-// Writers of text into a lent output: what does not fit is left out and still counted.
-ghost use Rattle.std.specs.Prelude.{◌++◌, decimal};
-ghost use Rattle.std.specs.Fmt.{signed_decimal};
-ghost use Rattle.text.specs.Page.{Laid, listed};
+// A page: a lent output, and the place where its text goes on.
+ghost use Rattle.std.specs.Prelude.{◌≡◌, ◌++◌};
+ghost use Rattle.text.specs.Page.{Writes, output_of, place_of, listed};
 
-// Lays the text from a place on, and answers the place after it.
-pub fn put(out: &mut [u8], at: usize, text: &[u8]) -> usize
-    ensures { Laid out.old at text.now out.new result }
-{
-    let after = at.saturating_add(text.len());
-    if at >= out.len() {
-        return after;
-    }
-    let fits = text.len().min(out.len() - at);
-    out[at..at + fits].copy_from_slice(&text[..fits]);
-    after
+use itoa::{Buffer, Integer};
+
+// What does not fit is left out and still counted. A write can't fail, so this is no `fmt::Write`.
+#[derive(Drop)]
+pub struct Page<'a> {
+    out: &'a mut [u8],
+    place: usize,
 }
 
-// The digits of n, filled in from the last.
-pub fn put_decimal(out: &mut [u8], at: usize, n: u64) -> usize
-    ensures { Laid out.old at (decimal n) out.new result }
-{
-    let mut digits = [b'0'; 20];
-    let mut first = 19;
-    let mut rest = n;
-    while rest >= 10 {
-        digits[first] = b'0' + (rest % 10) as u8;
-        rest /= 10;
-        first -= 1;
+impl<'a> Page<'a> {
+    // A page whose text goes on at the place.
+    pub fn new(out: &'a mut [u8], place: usize) -> Page<'a>
+        ensures output { output_of result ≡ out.entry }
+        ensures place { place_of result ≡ place }
+    {
+        Page { out, place }
     }
-    digits[first] = b'0' + rest as u8;
-    put(out, at, &digits[first..])
-}
 
-// The digits of n, after a minus sign where it is negative.
-pub fn put_signed(out: &mut [u8], at: usize, n: i32) -> usize
-    ensures { Laid out.old at (signed_decimal n) out.new result }
-{
-    let size = n.unsigned_abs();
-    if n >= 0 {
-        return put_decimal(out, at, size as u64);
+    // The place after the text.
+    pub fn place(&self) -> usize
+        ensures { result ≡ place_of self.now }
+    {
+        self.place
     }
-    let place = put(out, at, b"-");
-    put_decimal(out, place, size as u64)
-}
 
-// A word, then a number.
-pub fn put_word_number(out: &mut [u8], at: usize, word: &[u8], n: u64) -> usize
-    ensures { Laid out.old at (word.now ++ decimal n) out.new result }
-{
-    let place = put(out, at, word);
-    put_decimal(out, place, n)
-}
-
-// A blank and its serial for each.
-pub fn put_serials(out: &mut [u8], at: usize, serials: &[u16]) -> usize
-    ensures { Laid out.old at (listed serials.now) out.new result }
-{
-    let mut place = at;
-    for serial in serials {
-        place = put_word_number(out, place, b" ", *serial as u64);
+    // Lays the text from the place on, and goes to the place after it.
+    pub fn put(&mut self, text: &[u8])
+        ensures { Writes self.old text.now self.new }
+    {
+        let start = self.place.min(self.out.len());
+        let fits = text.len().min(self.out.len() - start);
+        self.out[start..start + fits].copy_from_slice(&text[..fits]);
+        self.place = self.place.saturating_add(text.len());
     }
-    place
+
+    // The digits of a number, after a minus sign where it is negative.
+    pub fn put_number<I: Integer>(&mut self, number: I)
+        ensures { Writes self.old (I.text number) self.new }
+    {
+        let mut buffer = Buffer::new();
+        self.put(buffer.format(number).as_bytes());
+    }
+
+    // A word, then a number.
+    pub fn put_word_number<I: Integer>(&mut self, word: &[u8], number: I)
+        ensures { Writes self.old (word.now ++ I.text number) self.new }
+    {
+        self.put(word);
+        self.put_number(number);
+    }
+
+    // A blank and its serial for each.
+    pub fn put_serials(&mut self, serials: &[u16])
+        ensures { Writes self.old (listed serials.now) self.new }
+    {
+        for serial in serials {
+            self.put_word_number(b" ", *serial);
+        }
+    }
 }

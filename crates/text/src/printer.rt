@@ -1,83 +1,71 @@
 // The printer: one pass over the code by `look`, the same to count its text and to write it.
-ghost use Rattle.std.specs.Prelude.{◌≡◌, ℕ, ◌<◌, ◌≤◌, [], length, take};
-ghost use Rattle.text.specs.Page.{Laid};
-ghost use Rattle.text.specs.Printing.{nearest_first, text_of, RoomAround};
+ghost use Rattle.std.specs.Prelude.{[]};
+ghost use Rattle.text.specs.Page.{Writes};
+ghost use Rattle.text.specs.Around.{serials};
+ghost use Rattle.text.specs.Printing.{text_of, Countable};
 
-use crate::page::{put, put_signed, put_word_number};
-use crate::spelling::{level_of, put_between, put_fun_head, put_let_head, put_name, put_truth};
+use crate::around::Around;
+use crate::page::Page;
 use code::construct::{Construct, Handle};
 use store::meaning::Store;
 
-// The most binders that a code of a store can hold, one in the body of another.
-pub const MOST_AROUND: usize = 4096;
+impl Page<'_> {
+    // Lays the text of the handle's code.
+    pub fn put_code<S: Store>(&mut self, store: &S, handle: Handle)
+        ensures { Writes self.old (text_of [] (S.Store.code store.now handle)) self.new }
+    {
+        self.put_code_in(store, handle, &Around::nothing());
+    }
 
-// Lays the text of the handle's code from a place on, and answers the place after it. It stands in the bodies of
-// the binders whose serials are the first `depth` of `around`, the outermost first.
-fn write_code<S: Store>(
-    store: &S,
-    handle: Handle,
-    around: &mut [u16],
-    depth: usize,
-    out: &mut [u8],
-    at: usize,
-) -> usize
-    requires { (S.Store.valid store.now) × ((RoomAround around.old depth (S.Store.code store.now handle)) × (length around.old ≤ 4096)) }
-    ensures kept { take depth around.new ≡ take depth around.old }
-    ensures laid { Laid out.old at (text_of (nearest_first around.old depth) (S.Store.code store.now handle)) out.new result }
-{
-    let Some(construct) = store.look(handle) else {
-        return put(out, at, b"");
-    };
-    match construct {
-        Construct::Number(value) => put_signed(out, at, value),
-        Construct::Truth(truth) => put_truth(out, at, truth),
-        Construct::Input(input) => put_word_number(out, at, b"i", input as u64),
-        Construct::Variable(serial) => put_name(out, at, level_of(around, depth, serial) as u64),
-        Construct::Join(operator, left, right) => {
-            let p = put(out, at, b"(");
-            let p = write_code(store, left, around, depth, out, p);
-            let p = put_between(out, p, operator);
-            let p = write_code(store, right, around, depth, out, p);
-            put(out, p, b")")
-        }
-        Construct::Choose(condition, then, otherwise) => {
-            let p = put(out, at, b"(if ");
-            let p = write_code(store, condition, around, depth, out, p);
-            let p = put(out, p, b" then ");
-            let p = write_code(store, then, around, depth, out, p);
-            let p = put(out, p, b" else ");
-            let p = write_code(store, otherwise, around, depth, out, p);
-            put(out, p, b")")
-        }
-        Construct::Apply(function, argument) => {
-            let p = put(out, at, b"(");
-            let p = write_code(store, function, around, depth, out, p);
-            let p = put(out, p, b" @ ");
-            let p = write_code(store, argument, around, depth, out, p);
-            put(out, p, b")")
-        }
-        Construct::Function(serial, parameter, body) => {
-            let p = put_fun_head(out, at, depth as u64, parameter);
-            around[depth] = serial;
-            let p = write_code(store, body, around, depth + 1, out, p);
-            put(out, p, b")")
-        }
-        Construct::Let(serial, bound, body) => {
-            let p = put_let_head(out, at, depth as u64);
-            let p = write_code(store, bound, around, depth, out, p);
-            let p = put(out, p, b" in ");
-            around[depth] = serial;
-            let p = write_code(store, body, around, depth + 1, out, p);
-            put(out, p, b")")
+    // Lays the text of the handle's code, which stands in the bodies of the binders around.
+    fn put_code_in<S: Store>(&mut self, store: &S, handle: Handle, around: &Around)
+        requires { Countable (serials around.now.binders) (S.Store.code store.now handle) }
+        ensures { Writes self.old (text_of (serials around.now.binders) (S.Store.code store.now handle)) self.new }
+    {
+        let Some(construct) = store.look(handle) else {
+            // no code: nothing is written, which is said of the page as of any writing
+            return self.put(b"");
+        };
+        match construct {
+            Construct::Number(value) => self.put_number(value),
+            Construct::Truth(truth) => self.put_truth(truth),
+            Construct::Input(input) => self.put_word_number(b"i", input),
+            Construct::Variable(serial) => self.put_name(around.level_of(serial)),
+            Construct::Join(operator, left, right) => {
+                self.put(b"(");
+                self.put_code_in(store, left, around);
+                self.put_between(operator);
+                self.put_code_in(store, right, around);
+                self.put(b")");
+            }
+            Construct::Choose(condition, then, otherwise) => {
+                self.put(b"(if ");
+                self.put_code_in(store, condition, around);
+                self.put(b" then ");
+                self.put_code_in(store, then, around);
+                self.put(b" else ");
+                self.put_code_in(store, otherwise, around);
+                self.put(b")");
+            }
+            Construct::Apply(function, argument) => {
+                self.put(b"(");
+                self.put_code_in(store, function, around);
+                self.put(b" @ ");
+                self.put_code_in(store, argument, around);
+                self.put(b")");
+            }
+            Construct::Function(serial, parameter, body) => {
+                self.put_fun_head(around.level(), parameter);
+                self.put_code_in(store, body, &around.body(serial));
+                self.put(b")");
+            }
+            Construct::Let(serial, bound, body) => {
+                self.put_let_head(around.level());
+                self.put_code_in(store, bound, around);
+                self.put(b" in ");
+                self.put_code_in(store, body, &around.body(serial));
+                self.put(b")");
+            }
         }
     }
-}
-
-// Lays the text of the handle's code from a place on, and answers the place after it.
-pub fn put_code<S: Store>(store: &S, handle: Handle, out: &mut [u8], at: usize) -> usize
-    requires { S.Store.valid store.now }
-    ensures { Laid out.old at (text_of [] (S.Store.code store.now handle)) out.new result }
-{
-    let mut around = [0; MOST_AROUND];
-    write_code(store, handle, &mut around, 0, out, at)
 }
