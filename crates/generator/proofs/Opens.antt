@@ -1,8 +1,9 @@
 -- Which names are open, in the table and in the state read from it.
-use Rattle.std.proofs.Common.{◌≡◌, ℕ, suc, ◌+◌, ◌<◌, Bool, true, false, cond, eqb, List, [], ◌∷◌, ◌++◌, map, reverse, length, get_or, take, is_some, Some, None, Option, sym, refl, ap, ◌∙◌, arith}
+use Rattle.std.proofs.Common.{◌≡◌, ℕ, suc, ◌+◌, ◌<◌, Bool, true, false, cond, not, eqb, List, [], ◌∷◌, ◌++◌, map, reverse, length, get_or, is_some, Some, None, Option, sym, refl, ap, ◌∙◌, arith}
+use Rattle.std.specs.List.{count_by}
+use Rattle.std.proofs.lemmas.List.Recursion.{is_count_by}
 use mathlib.Core.List.{reverse-cons}
 use Rattle.std.proofs.lemmas.Bool.{eq-eqb, ne_eqb, cond-true, cond-false}
-use Rattle.std.proofs.lemmas.List.{length-append, take_more}
 use Rattle.store.specs.Meaning.{Codes}
 use Rattle.store.specs.Search.{First, NoneBefore}
 use Rattle.generator.specs.declared.binder.Binder.{Binder as Opened}
@@ -71,24 +72,10 @@ pub search_tells : (code : Codes) (w : Opened) (xs : List Opened) (o : Option �
 search_tells code w xs None none = sym (open_has code xs w.serial ∙ has_none w xs none)
 search_tells code w xs (Some i) found = sym (open_has code xs w.serial ∙ has_some w xs i found.0 found.1)
 
--- one name more
-escaping_push : (bs : List Binder) (xs : List ℕ) (x : ℕ) → escaping bs (xs ++ (x ∷ [])) ≡ escaping bs xs ++ cond (is_open bs x) [] (x ∷ [])
-escaping_push bs [] x = refl
-escaping_push bs (y ∷ xs) x = go (is_open bs y) (escaping_push bs xs x)
+-- the names that are not open, counted
+pub length-escaping : (bs : List Binder) (xs : List ℕ) → length (escaping bs xs) ≡ count_by (λ s. not (is_open bs s)) xs
+length-escaping bs xs = is_count_by (λ ys. length (escaping bs ys)) (λ s. not (is_open bs s)) refl (λ y ys. one_more (is_open bs y) y (escaping bs ys)) xs
   where
-    go : (b : Bool) → escaping bs (xs ++ (x ∷ [])) ≡ escaping bs xs ++ cond (is_open bs x) [] (x ∷ []) → cond b (escaping bs (xs ++ (x ∷ []))) (y ∷ escaping bs (xs ++ (x ∷ []))) ≡ cond b (escaping bs xs) (y ∷ escaping bs xs) ++ cond (is_open bs x) [] (x ∷ [])
-    go true h = h
-    go false h = ap (λ (l : List ℕ). y ∷ l) h
-
-count_more : (bs : List Binder) (xs : List ℕ) (i : ℕ) (b : Bool) → i < length xs → is_open bs (get_or xs i 0) ≡ b → length (escaping bs (take (i + 1) xs)) ≡ length (escaping bs (take i xs)) + length (cond b [] (get_or xs i 0 ∷ []))
-count_more bs xs i b lt e =
-    ap (λ (l : List ℕ). length (escaping bs l)) (take_more xs i 0 lt) ∙ ap length (escaping_push bs (take i xs) (get_or xs i 0))
-    ∙ length-append (escaping bs (take i xs)) (cond (is_open bs (get_or xs i 0)) [] (get_or xs i 0 ∷ []))
-    ∙ ap (λ (b : Bool). length (escaping bs (take i xs)) + length (cond b [] (get_or xs i 0 ∷ []))) e
-
--- an open name is not counted, any other is
-pub count_open : (bs : List Binder) (xs : List ℕ) (i : ℕ) → i < length xs → is_open bs (get_or xs i 0) ≡ true → length (escaping bs (take (i + 1) xs)) ≡ length (escaping bs (take i xs))
-count_open bs xs i lt e = omega (arith, count_more bs xs i true lt e)
-
-pub count_escaping : (bs : List Binder) (xs : List ℕ) (i : ℕ) → i < length xs → is_open bs (get_or xs i 0) ≡ false → length (escaping bs (take (i + 1) xs)) ≡ length (escaping bs (take i xs)) + 1
-count_escaping bs xs i lt e = count_more bs xs i false lt e
+    one_more : (b : Bool) (y : ℕ) (ys : List ℕ) → length (cond b ys (y ∷ ys)) ≡ cond (not b) (1 + length ys) (length ys)
+    one_more true y ys = refl
+    one_more false y ys = omega arith

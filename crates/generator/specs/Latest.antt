@@ -1,20 +1,14 @@
 -- The latest open binder, where it was opened since the latest mark.
-use Rattle.std.specs.Prelude.{◌≡◌, ℕ, ◌-◌, ◌<◌, Bool, List, [], ◌∷◌, length, Ok, Err, Result, nat_le, slice_index_or}
-use Rattle.code.specs.declared.types.Base.TheVariants.{Number}
+use Rattle.std.specs.Prelude.{◌≡◌, ℕ, ◌-◌, Bool, List, [], ◌∷◌, length, Some, Ok, Err, Result, nat_le, slice_get}
+use Rattle.arrayvec.specs.ArrayVec.{array_vec_len}
 use Rattle.store.specs.Meaning.{Codes}
 use Rattle.generator.specs.declared.binder.Binder.{Binder as Opened}
-use Rattle.generator.specs.declared.binder.Binding.TheVariants.{Parameter}
 use Rattle.generator.specs.declared.fault.GeneratorFault.{GeneratorFault}
 use Rattle.generator.specs.declared.table.Table.{Table}
 use Rattle.model.specs.Model.{State, Binder, Fault, plain, no_binder, judge}
 use Rattle.model.specs.Model
 use Rattle.generator.specs.Reads.{read, read_binder, read_binders, read_fault}
-use Rattle.generator.specs.Standing.{Whole}
 use Rattle.generator.specs.Planning.{but_latest}
-
--- what a read past the end would give
-abbrev pub no_opening : Opened
-no_opening = record { serial = 0; binding = Parameter Number }
 
 abbrev pub one_of : Bool → Binder → List Binder → Result (Binder × List Binder) Fault
 one_of q b rest = judge q no_binder (Ok (b, rest))
@@ -29,10 +23,9 @@ latest_of st = latest_in st.marks st.open_binders
 
 -- the table's latest binder is the definition's
 pub record LatestIs (t : Table) (b : Opened) : Type 0 where
-  pub some : 0 < t.depth
-  pub last : slice_index_or t.binders (t.depth - 1) no_opening ≡ b
-  pub found : (code : Codes) → Whole t → latest_of (read code t) ≡ Ok (read_binder code b, but_latest (read_binders code t))
+  pub last : slice_get t.binders.items (array_vec_len t.binders - 1) ≡ Some b
+  pub found : (code : Codes) → latest_of (read code t) ≡ Ok (read_binder code b, but_latest (read_binders code t))
 
 abbrev pub Latest : Table → Result Opened GeneratorFault → Type 0
 Latest t (Ok b) = LatestIs t b
-Latest t (Err f) = (code : Codes) → Whole t → latest_of (read code t) ≡ Err (read_fault f)
+Latest t (Err f) = (code : Codes) → latest_of (read code t) ≡ Err (read_fault f)

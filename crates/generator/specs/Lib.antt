@@ -1,5 +1,6 @@
 pub mod Faults
 pub mod Binders
+pub mod Blanks
 pub mod Plans
 pub mod Reads
 pub mod Reading

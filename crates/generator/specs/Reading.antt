@@ -1,9 +1,10 @@
 -- What a call reads first: its cells, and that none of the codes that it uses has escaped.
-use Rattle.std.specs.Prelude.{◌≡◌, ℕ, ◌<◌, ◌≤◌, List, Ok, Err, Result, nat_lt, slice_index_or}
+use Rattle.std.specs.Prelude.{◌≡◌, ℕ, ◌<◌, ◌≤◌, List, [], ◌∷◌, map, None, Ok, Err, Result, nat_lt, slice_index_or, ok_or, if◌then◌else◌}
+use Rattle.std.specs.List.{AllZip}
 use Rattle.store.specs.Meaning.{Codes}
 use Rattle.generator.specs.declared.cell.Cell.{Cell}
-use Rattle.generator.specs.declared.cell.Cell.TheVariants.{Empty, Full}
 use Rattle.generator.specs.declared.cell.Piece.{Piece as Held}
+use Rattle.generator.specs.declared.slot.Slot.{Slot}
 use Rattle.generator.specs.declared.table.Table.{Table}
 use Rattle.generator.specs.declared.fault.GeneratorFault.{GeneratorFault}
 use Rattle.generator.specs.declared.fault.GeneratorFault.TheVariants.{BadArgument, EmptyCell}
@@ -20,19 +21,21 @@ abbrev pub slot_of : ℕ → Result ℕ Fault
 slot_of a = judge (nat_lt a 16) bad_argument (Ok a)
 
 -- a cell's number is its place, below 16
-abbrev pub Slot : ℕ → Result ℕ GeneratorFault → Type 0
-Slot c (Ok at) = (at ≡ c) × (at < 16)
-Slot c (Err f) = (f ≡ BadArgument) × (16 ≤ c)
+abbrev pub IsSlot : ℕ → Result Slot GeneratorFault → Type 0
+IsSlot c (Ok slot) = (slot.at ≡ c) × (slot.at < 16)
+IsSlot c (Err f) = (f ≡ BadArgument) × (16 ≤ c)
+
+-- a cell with no code
+abbrev pub empty : Cell
+empty = record { content = None }
 
 -- the code in a cell
 abbrev pub held : Cell → Result Held GeneratorFault
-held Empty = Err EmptyCell
-held (Full p) = Ok p
+held c = ok_or c.content EmptyCell
 
--- the code in a cell, or that it is empty
-abbrev pub HeldAt : List Cell → ℕ → Result Held GeneratorFault → Type 0
-HeldAt cells at (Ok p) = slice_index_or cells at Empty ≡ Full p
-HeldAt cells at (Err f) = (f ≡ EmptyCell) × (slice_index_or cells at Empty ≡ Empty)
+-- the code in the cell of this number
+abbrev pub held_at : Table → ℕ → Result Held GeneratorFault
+held_at t a = if nat_lt a 16 then held (slice_index_or t.cells a empty) else Err BadArgument
 
 abbrev pub held_in : State → ℕ → Result Piece Fault
 held_in st a = full (cell st a) Ok
@@ -41,32 +44,32 @@ held_in st a = full (cell st a) Ok
 abbrev pub may_use : State → ℕ → Piece → Result (Unit {0}) Fault
 may_use st a x = usable st a x (Ok tt)
 
--- the codes of the cells that a call uses
-abbrev pub used_one : State → ℕ → Result Piece Fault
-used_one st a = and_then (slot_of a) λ a. and_then (held_in st a) λ x. and_then (may_use st a x) λ _. Ok x
+-- each judged in turn: the first refusal is the answer
+abbrev pub each_of : {A B : Type 0} → (A → Result B Fault) → List A → Result (List B) Fault
+each_of judged [] = Ok []
+each_of judged (x ∷ xs) = and_then (judged x) λ y. and_then (each_of judged xs) λ ys. Ok (y ∷ ys)
 
-abbrev pub used_two : State → ℕ → ℕ → Result (Piece × Piece) Fault
-used_two st a b =
-    and_then (slot_of a) λ a. and_then (slot_of b) λ b. and_then (held_in st a) λ x. and_then (held_in st b) λ y.
-    and_then (may_use st a x) λ _. and_then (may_use st b y) λ _. Ok (x, y)
+abbrev pub judge_each : {A B : Type 0} → (A → Result B Fault) → List A → Result (Unit {0}) Fault
+judge_each judged [] = Ok tt
+judge_each judged (x ∷ xs) = and_then (judged x) λ _. judge_each judged xs
 
-abbrev pub used_three : State → ℕ → ℕ → ℕ → Result (Piece × Piece × Piece) Fault
-used_three st a b d =
-    and_then (slot_of a) λ a. and_then (slot_of b) λ b. and_then (slot_of d) λ d.
-    and_then (held_in st a) λ x. and_then (held_in st b) λ y. and_then (held_in st d) λ z.
-    and_then (may_use st a x) λ _. and_then (may_use st b y) λ _. and_then (may_use st d z) λ _. Ok (x, y, z)
+-- whether each cell's code may be used
+abbrev pub may_use_each : State → List ℕ → List Piece → Result (Unit {0}) Fault
+may_use_each st (a ∷ cells) (x ∷ pieces) = and_then (may_use st a x) λ _. may_use_each st cells pieces
+may_use_each st [] pieces = Ok tt
+may_use_each st (a ∷ cells) [] = Ok tt
 
--- what was read of a table's cells: the definition's pieces, by whatever codes the handles are read, and the pieces that the cells hold
-abbrev pub ReadOne : Table → ℕ → Result Held GeneratorFault → Type 0
-ReadOne t a (Ok x) = ((code : Codes) → used_one (read code t) a ≡ Ok (read_piece code x)) × (slice_index_or t.cells a Empty ≡ Full x)
-ReadOne t a (Err f) = (code : Codes) → used_one (read code t) a ≡ Err (read_fault f)
+-- the codes of the cells that a call uses: every number is judged before any cell, and every cell before any code
+abbrev pub used : State → List ℕ → Result (List Piece) Fault
+used st cells =
+    and_then (judge_each slot_of cells) λ _. and_then (each_of (held_in st) cells) λ pieces.
+    and_then (may_use_each st cells pieces) λ _. Ok pieces
 
-abbrev pub ReadTwo : Table → ℕ → ℕ → Result (Held × Held) GeneratorFault → Type 0
-ReadTwo t a b (Ok p) = ((code : Codes) → used_two (read code t) a b ≡ Ok (read_piece code p.0, read_piece code p.1)) × (slice_index_or t.cells a Empty ≡ Full p.0) × (slice_index_or t.cells b Empty ≡ Full p.1)
-ReadTwo t a b (Err f) = (code : Codes) → used_two (read code t) a b ≡ Err (read_fault f)
+-- what was read of a table's cells: the pieces that they hold, and the definition's pieces by whatever codes the handles are read
+pub record PiecesOf (t : Table) (cells : List ℕ) (pieces : List Held) : Type 0 where
+  pub held_there : AllZip (λ a p. held_at t a ≡ Ok p) cells pieces
+  pub used_pieces : (code : Codes) → used (read code t) cells ≡ Ok (map (read_piece code) pieces)
 
-abbrev pub ReadThree : Table → ℕ → ℕ → ℕ → Result (Held × Held × Held) GeneratorFault → Type 0
-ReadThree t a b d (Ok p) =
-    ((code : Codes) → used_three (read code t) a b d ≡ Ok (read_piece code p.0, read_piece code p.1, read_piece code p.2))
-    × (slice_index_or t.cells a Empty ≡ Full p.0) × (slice_index_or t.cells b Empty ≡ Full p.1) × (slice_index_or t.cells d Empty ≡ Full p.2)
-ReadThree t a b d (Err f) = (code : Codes) → used_three (read code t) a b d ≡ Err (read_fault f)
+abbrev pub ReadEach : Table → List ℕ → Result (List Held) GeneratorFault → Type 0
+ReadEach t cells (Ok pieces) = PiecesOf t cells pieces
+ReadEach t cells (Err f) = (code : Codes) → used (read code t) cells ≡ Err (read_fault f)

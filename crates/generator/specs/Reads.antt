@@ -1,13 +1,11 @@
 -- A generator read through its store: each handle as the code that it stands for.
-use Rattle.std.specs.Prelude.{ℕ, List, map, reverse, take, pos, Some, None, Ok, Err, Option, Result}
+use Rattle.std.specs.Prelude.{ℕ, List, map, reverse, pos, Some, None, Ok, Err, Option, Result, option_map}
 use Rattle.code.specs.Code.{Code}
-use Rattle.code.specs.Serials.{names}
 use Rattle.store.specs.Meaning.{Codes}
 use Rattle.store.specs.declared.meaning.StoreFault.{StoreFault}
 use Rattle.store.specs.declared.meaning.StoreFault.TheVariants as store
 use Rattle.generator.specs.declared.cell.Piece.{Piece as Held}
 use Rattle.generator.specs.declared.cell.Cell.{Cell}
-use Rattle.generator.specs.declared.cell.Cell.TheVariants.{Empty, Full}
 use Rattle.generator.specs.declared.binder.Binder.{Binder as Opened}
 use Rattle.generator.specs.declared.binder.Binding.{Binding}
 use Rattle.generator.specs.declared.binder.Binding.TheVariants.{Parameter, Bound}
@@ -22,11 +20,10 @@ known_code None = Code.number (pos 0)
 known_code (Some c) = c
 
 abbrev pub read_piece : Codes → Held → Piece
-read_piece code p = record { code = known_code (code p.handle); type = p.ty; size = p.size; names = names p.names }
+read_piece code p = record { code = known_code (code p.handle); type = p.ty; size = p.size; names = p.names }
 
 abbrev pub read_cell : Codes → Cell → Option Piece
-read_cell code Empty = None
-read_cell code (Full p) = Some (read_piece code p)
+read_cell code c = option_map (read_piece code) c.content
 
 abbrev pub read_binding : Codes → ℕ → Binding → Binder
 read_binding code s (Parameter p) = parameter s p
@@ -37,10 +34,10 @@ read_binder code b = read_binding code b.serial b.binding
 
 -- the table keeps binders and marks in order of opening, the state has the latest first
 abbrev pub read_binders : Codes → Table → List Binder
-read_binders code t = reverse (map (read_binder code) (take t.depth t.binders))
+read_binders code t = reverse (map (read_binder code) t.binders.items)
 
 abbrev pub read_marks : Table → List ℕ
-read_marks t = reverse (take t.marked t.marks)
+read_marks t = reverse t.marks.items
 
 abbrev pub read : Codes → Table → State
 read code t =

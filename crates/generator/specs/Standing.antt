@@ -1,10 +1,9 @@
 -- When a generator stands: calls led to it from a fresh one, and each handle that it holds is known to its store.
-use Rattle.std.specs.Prelude.{◌≡◌, List, [], ◌∷◌, length, take, Some}
+use Rattle.std.specs.Prelude.{◌≡◌, Some, All, IfSome}
 use Rattle.code.specs.declared.construct.Handle.{Handle}
 use Rattle.code.specs.Code.{Code}
 use Rattle.store.specs.Meaning.{Codes}
 use Rattle.generator.specs.declared.cell.Cell.{Cell}
-use Rattle.generator.specs.declared.cell.Cell.TheVariants.{Empty, Full}
 use Rattle.generator.specs.declared.binder.Binder.{Binder}
 use Rattle.generator.specs.declared.binder.Binding.{Binding}
 use Rattle.generator.specs.declared.binder.Binding.TheVariants.{Parameter, Bound}
@@ -12,18 +11,12 @@ use Rattle.generator.specs.declared.table.Table.{Table}
 use Rattle.model.specs.Finish.{Grown}
 use Rattle.generator.specs.Reads.{read}
 
--- P of each entry
-abbrev pub Each : {A : Type 0} → (A → Type 0) → List A → Type 0
-Each P [] = Unit {0}
-Each P (x ∷ xs) = P x × Each P xs
-
 -- the handle stands for a code
 abbrev pub StandsForSome : Codes → Handle → Type 0
 StandsForSome code h = (c : Code) × (code h ≡ Some c)
 
 abbrev pub CellKnown : Codes → Cell → Type 0
-CellKnown code Empty = Unit {0}
-CellKnown code (Full p) = StandsForSome code p.handle
+CellKnown code c = IfSome c.content λ p. StandsForSome code p.handle
 
 abbrev pub BindingKnown : Codes → Binding → Type 0
 BindingKnown code (Parameter p) = Unit {0}
@@ -32,16 +25,10 @@ BindingKnown code (Bound e) = StandsForSome code e.handle
 abbrev pub BinderKnown : Codes → Binder → Type 0
 BinderKnown code b = BindingKnown code b.binding
 
--- there is a place for each of 16 binders and of 8 marks
-pub record Whole (t : Table) : Type 0 where
-  pub sixteen : length t.binders ≡ 16
-  pub eight : length t.marks ≡ 8
-
 -- the handles of full cells and of open lets are known
 pub record Known (code : Codes) (t : Table) : Type 0 where
-  pub whole : Whole t
-  pub cells : Each (CellKnown code) t.cells
-  pub bounds : Each (BinderKnown code) (take t.depth t.binders)
+  pub cells : All (CellKnown code) t.cells
+  pub bounds : All (BinderKnown code) t.binders.items
 
 -- sizes, names and types are then exact, as they are in every state that calls lead to
 pub record Stands (code : Codes) (t : Table) : Type 0 where

@@ -22,6 +22,20 @@ pub struct Binder {
     pub binding: Binding,
 }
 
+// An `ArrayVec` fills its unused places with it.
+impl Default for Binder {
+    ghost use Rattle.generator.specs.Blanks.{blank_binder};
+
+    ghost is_default = { λ binder. binder ≡ blank_binder };
+
+    fn default() -> Binder {
+        Binder {
+            serial: 0,
+            binding: Binding::Parameter(Base::Number),
+        }
+    }
+}
+
 impl Binding {
     // The type of the variable.
     pub fn variable_type(&self) -> Ty

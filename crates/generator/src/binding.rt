@@ -1,8 +1,6 @@
-// The plans of the calls that open and close binders.
-ghost use Rattle.std.specs.Prelude.{◌≡◌, ◌<◌, Ok};
-ghost use Rattle.code.specs.Numbers.{base as base_of};
-ghost use Rattle.model.specs.Model.{lawful as lawful_of};
-ghost use Rattle.generator.specs.Reads.{read_result};
+// The plans of the calls that open and close binders. A type comes as a number: what is planned is the definition's,
+// which judges numbers, so an enum here would be no plainer. That the
+// table has room for a plan holds between the two, so no type of one of them can say it.
 ghost use Rattle.generator.specs.Plans.{Ready, Closing, SomeOpen};
 
 use crate::binder::{Binder, Binding};
@@ -10,22 +8,22 @@ use crate::cell::Piece;
 use crate::fault::GeneratorFault;
 use crate::plan::{Plan, Scope};
 use crate::planning::{judge_size, judge_type};
-use crate::reading::slot;
-use crate::table::{MOST_BINDERS, MOST_SERIALS, Table};
+use crate::slot::Slot;
+use crate::table::Table;
 use code::construct::Construct;
 use code::names::Names;
 use code::types::{Base, Ty};
+use store::ledger::SERIALS;
 
 impl Table {
     // A variable with the next serial, under a binder that opens with it.
-    fn plan_open(&self, to: usize, binding: Binding) -> Result<Plan, GeneratorFault>
-        requires { to < 16 }
+    fn plan_open(&self, to: Slot, binding: Binding) -> Result<Plan, GeneratorFault>
         ensures { Ready self.now result }
     {
-        if self.depth >= MOST_BINDERS {
+        if self.binders.is_full() {
             return Err(GeneratorFault::TooDeep);
         }
-        if self.next >= MOST_SERIALS {
+        if self.next >= SERIALS {
             return Err(GeneratorFault::NamesSpent);
         }
         let construct = Construct::Variable(self.next);
@@ -43,70 +41,58 @@ impl Table {
     pub(crate) fn plan_fun(&self, cell: u8, parameter: u8) -> Result<Plan, GeneratorFault>
         ensures { Ready self.now result }
     {
-        let to = slot(cell)?;
-        let base = judge_base(parameter)?;
+        let to = Slot::try_from(cell)?;
+        let base = Base::try_from(parameter)?;
         self.plan_open(to, Binding::Parameter(base))
     }
 
     pub(crate) fn plan_let(&self, cell: u8, bound: u8) -> Result<Plan, GeneratorFault>
         ensures { Ready self.now result }
     {
-        let to = slot(cell)?;
-        let x = self.read_one(bound)?;
+        let to = Slot::try_from(cell)?;
+        let [x] = self.read_each([bound])?;
         self.plan_open(to, Binding::Bound(x))
     }
 
     // The number of binders that were open at the latest mark.
     pub(crate) fn floor(&self) -> usize {
-        if self.marked == 0 {
-            0
-        } else {
-            self.marks[self.marked - 1]
-        }
+        self.marks.last().copied().unwrap_or(0)
     }
 
     // The latest binder, where it was opened since the latest mark.
     pub(crate) fn latest(&self) -> Result<Binder, GeneratorFault>
         ensures { SomeOpen self.now result }
     {
-        if self.depth == 0 || self.depth <= self.floor() {
-            return Err(GeneratorFault::NoBinder);
-        }
-        Ok(self.binders[self.depth - 1])
+        let latest = self.binders.last().copied();
+        latest
+            .filter(|_| self.floor() < self.binders.len())
+            .ok_or(GeneratorFault::NoBinder)
     }
 
     pub(crate) fn plan_close(&self, cell: u8, body: u8) -> Result<Plan, GeneratorFault>
         ensures { Ready self.now result }
     {
-        let to = slot(cell)?;
-        let x = self.read_one(body)?;
-        let binder = self.latest()?;
-        match binder.binding {
-            Binding::Parameter(base) => plan_function(to, binder.serial, base, &x),
-            Binding::Bound(bound) => plan_let_in(to, binder.serial, &bound, &x),
+        let to = Slot::try_from(cell)?;
+        let [x] = self.read_each([body])?;
+        let Binder { serial, binding } = self.latest()?;
+        match binding {
+            Binding::Parameter(base) => plan_function(to, serial, base, &x),
+            Binding::Bound(bound) => plan_let_in(to, serial, &bound, &x),
         }
     }
 }
 
-// The type that a number stands for.
-fn judge_base(number: u8) -> Result<Base, GeneratorFault>
-    ensures { read_result (λ b. b) result ≡ lawful_of (base_of number) Ok }
-{
-    Base::from_number(number).ok_or(GeneratorFault::BadArgument)
-}
-
 // The function with this body, its binder closed.
 fn plan_function(
-    to: usize,
+    to: Slot,
     serial: u16,
     parameter: Base,
     body: &Piece,
 ) -> Result<Plan, GeneratorFault>
-    requires { to < 16 }
     ensures { Closing result }
 {
     let ty = judge_type(Ty::abstracted(parameter, body.ty))?;
-    let size = judge_size(1 + body.size as u32)?;
+    let size = judge_size(&[body.size])?;
     let construct = Construct::Function(serial, parameter, body.handle);
     Ok(Plan {
         to,
@@ -119,11 +105,10 @@ fn plan_function(
 }
 
 // The let with this bound code and body, its binder closed.
-fn plan_let_in(to: usize, serial: u16, bound: &Piece, body: &Piece) -> Result<Plan, GeneratorFault>
-    requires { to < 16 }
+fn plan_let_in(to: Slot, serial: u16, bound: &Piece, body: &Piece) -> Result<Plan, GeneratorFault>
     ensures { Closing result }
 {
-    let size = judge_size(1 + bound.size as u32 + body.size as u32)?;
+    let size = judge_size(&[bound.size, body.size])?;
     let construct = Construct::Let(serial, bound.handle, body.handle);
     let names = bound.names.merge(&body.names.without(serial));
     Ok(Plan {

@@ -1,5 +1,7 @@
-// The calls of a generator, each refused by the first of its refusals that applies.
-ghost use Rattle.std.specs.Prelude.{◌≡◌};
+// The calls of a generator, each refused by the first of its refusals that applies. Cells, operators, types and truths
+// come as numbers: enums would ask more of the caller than a call that refuses what is out of range.
+// That the store stays as it was is what some calls promise, not a fact about a generator, so no type says it.
+ghost use Rattle.std.specs.Prelude.{◌≡◌, IfOk};
 
 use crate::fault::GeneratorFault;
 use crate::generator::Generator;
@@ -8,28 +10,19 @@ use store::meaning::Store;
 
 impl<S: Store> Generator<S> {
     // A number into a cell.
-    pub fn num(&mut self, cell: u8, value: i32) -> Result<(), GeneratorFault>
-        requires { S.Store.valid self.old.store }
-        ensures stays { S.Store.valid self.new.store }
-    {
+    pub fn num(&mut self, cell: u8, value: i32) -> Result<(), GeneratorFault> {
         let plan = plan_num(cell, value)?;
         self.carry_out(&plan)
     }
 
     // A truth, 0 or 1, into a cell.
-    pub fn truth(&mut self, cell: u8, truth: u8) -> Result<(), GeneratorFault>
-        requires { S.Store.valid self.old.store }
-        ensures stays { S.Store.valid self.new.store }
-    {
+    pub fn truth(&mut self, cell: u8, truth: u8) -> Result<(), GeneratorFault> {
         let plan = plan_truth(cell, truth)?;
         self.carry_out(&plan)
     }
 
     // An input, 0 to 7, into a cell.
-    pub fn input(&mut self, cell: u8, input: u8) -> Result<(), GeneratorFault>
-        requires { S.Store.valid self.old.store }
-        ensures stays { S.Store.valid self.new.store }
-    {
+    pub fn input(&mut self, cell: u8, input: u8) -> Result<(), GeneratorFault> {
         let plan = plan_input(cell, input)?;
         self.carry_out(&plan)
     }
@@ -41,10 +34,7 @@ impl<S: Store> Generator<S> {
         operator: u8,
         left: u8,
         right: u8,
-    ) -> Result<(), GeneratorFault>
-        requires { S.Store.valid self.old.store }
-        ensures stays { S.Store.valid self.new.store }
-    {
+    ) -> Result<(), GeneratorFault> {
         let plan = self.table.plan_join(cell, operator, left, right)?;
         self.carry_out(&plan)
     }
@@ -56,50 +46,35 @@ impl<S: Store> Generator<S> {
         condition: u8,
         then: u8,
         otherwise: u8,
-    ) -> Result<(), GeneratorFault>
-        requires { S.Store.valid self.old.store }
-        ensures stays { S.Store.valid self.new.store }
-    {
+    ) -> Result<(), GeneratorFault> {
         let plan = self.table.plan_choose(cell, condition, then, otherwise)?;
         self.carry_out(&plan)
     }
 
     // One cell's code applied to another's, into a cell.
-    pub fn apply(&mut self, cell: u8, function: u8, argument: u8) -> Result<(), GeneratorFault>
-        requires { S.Store.valid self.old.store }
-        ensures stays { S.Store.valid self.new.store }
-    {
+    pub fn apply(&mut self, cell: u8, function: u8, argument: u8) -> Result<(), GeneratorFault> {
         let plan = self.table.plan_apply(cell, function, argument)?;
         self.carry_out(&plan)
     }
 
     // Opens a function binder with a parameter of this type, its variable into a cell; answers its serial.
     pub fn fun(&mut self, cell: u8, parameter: u8) -> Result<u16, GeneratorFault>
-        requires { S.Store.valid self.old.store }
-        ensures stays { S.Store.valid self.new.store }
+        ensures { IfOk result (λ serial. serial ≡ self.old.table.next) }
     {
-        let serial = self.table.next;
         let plan = self.table.plan_fun(cell, parameter)?;
-        self.carry_out(&plan)?;
-        Ok(serial)
+        self.open(&plan)
     }
 
     // Opens a let binder over a cell's code, its variable into a cell; answers its serial.
     pub fn let_in(&mut self, cell: u8, bound: u8) -> Result<u16, GeneratorFault>
-        requires { S.Store.valid self.old.store }
-        ensures stays { S.Store.valid self.new.store }
+        ensures { IfOk result (λ serial. serial ≡ self.old.table.next) }
     {
-        let serial = self.table.next;
         let plan = self.table.plan_let(cell, bound)?;
-        self.carry_out(&plan)?;
-        Ok(serial)
+        self.open(&plan)
     }
 
     // Ends the latest open binder with a cell's code as body, the function or let into a cell.
-    pub fn close(&mut self, cell: u8, body: u8) -> Result<(), GeneratorFault>
-        requires { S.Store.valid self.old.store }
-        ensures stays { S.Store.valid self.new.store }
-    {
+    pub fn close(&mut self, cell: u8, body: u8) -> Result<(), GeneratorFault> {
         let plan = self.table.plan_close(cell, body)?;
         self.carry_out(&plan)
     }

@@ -1,8 +1,9 @@
 // Why a generator refused a call.
 ghost use Rattle.std.specs.Prelude.{◌≡◌};
-ghost use Rattle.generator.specs.declared.fault.GeneratorFault.TheVariants.{Store};
+ghost use Rattle.generator.specs.declared.fault.GeneratorFault.TheVariants.{BadArgument, Store};
 ghost use Rattle.generator.specs.Faults.{refused_as};
 
+use code::operator::UnknownNumber;
 use code::refusal::Refusal;
 use store::meaning::StoreFault;
 
@@ -32,11 +33,19 @@ impl From<StoreFault> for GeneratorFault {
     }
 }
 
-impl GeneratorFault {
-    pub fn refusal(self) -> Refusal
-        ensures { result ≡ refused_as self }
-    {
-        match self {
+impl From<UnknownNumber> for GeneratorFault {
+    ghost from_gives = { λ x y. y ≡ BadArgument };
+
+    fn from(_: UnknownNumber) -> Self {
+        Self::BadArgument
+    }
+}
+
+impl From<GeneratorFault> for Refusal {
+    ghost from_gives = { λ fault refusal. refusal ≡ refused_as fault };
+
+    fn from(fault: GeneratorFault) -> Refusal {
+        match fault {
             GeneratorFault::BadArgument => Refusal::BadArgument,
             GeneratorFault::EmptyCell => Refusal::EmptyCell,
             GeneratorFault::Escaped { .. } => Refusal::Escaped,
@@ -49,7 +58,7 @@ impl GeneratorFault {
             GeneratorFault::NamesSpent => Refusal::NamesSpent,
             GeneratorFault::TooLarge => Refusal::TooLarge,
             GeneratorFault::ShortOutput => Refusal::ShortOutput,
-            GeneratorFault::Store(fault) => fault.refusal(),
+            GeneratorFault::Store(fault) => Refusal::from(fault),
         }
     }
 }

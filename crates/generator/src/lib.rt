@@ -14,4 +14,5 @@ pub mod plan;
 pub mod planning;
 pub mod printing;
 pub mod reading;
+mod slot;
 pub mod table;

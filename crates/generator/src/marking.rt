@@ -6,26 +6,28 @@ use crate::binder::Binder;
 use crate::cell::Piece;
 use crate::fault::GeneratorFault;
 use crate::plan::{Plan, Scope};
-use crate::reading::slot;
-use crate::table::{MOST_MARKS, Table};
+use crate::slot::Slot;
+use crate::table::Table;
 use code::construct::Handle;
 
 impl Table {
-    // Puts the code that was made into its cell, and opens or closes its binder.
+    // Puts the code that was made into its cell, and opens or closes its binder. That there is room holds between table
+    // and plan, so no type of one of them can say it.
     pub(crate) fn carry_out(&mut self, plan: &Plan, handle: Handle)
         requires { RoomFor self.old plan.now.scope }
     {
         match plan.scope {
             Scope::Kept => {}
             Scope::Opened(binding) => {
-                self.binders[self.depth] = Binder {
+                self.binders.push(Binder {
                     serial: self.next,
                     binding,
-                };
-                self.depth += 1;
+                });
                 self.next += 1;
             }
-            Scope::Closed => self.depth -= 1,
+            Scope::Closed => {
+                self.binders.pop();
+            }
         }
         let piece = Piece {
             handle,
@@ -33,49 +35,41 @@ impl Table {
             size: plan.size,
             names: plan.names,
         };
-        self.cells[plan.to].fill(piece);
+        self.cells[plan.to.at].fill(piece);
     }
 
     pub(crate) fn copy(&mut self, cell: u8, from: u8) -> Result<(), GeneratorFault> {
-        let to = slot(cell)?;
-        let a = slot(from)?;
-        let piece = self.read(a)?;
-        self.cells[to].fill(piece);
+        let to = Slot::try_from(cell)?;
+        let piece = self.read(from)?;
+        self.cells[to.at].fill(piece);
         Ok(())
     }
 
     pub(crate) fn clear(&mut self, cell: u8) -> Result<(), GeneratorFault> {
-        let to = slot(cell)?;
-        self.cells[to].clear();
+        let to = Slot::try_from(cell)?;
+        self.cells[to.at].clear();
         Ok(())
     }
 
     pub(crate) fn mark(&mut self) -> Result<(), GeneratorFault> {
-        if self.marked >= MOST_MARKS {
-            return Err(GeneratorFault::TooDeep);
-        }
-        self.marks[self.marked] = self.depth;
-        self.marked += 1;
-        Ok(())
+        let open = self.binders.len();
+        self.marks
+            .try_push(open)
+            .map_err(|_| GeneratorFault::TooDeep)
     }
 
     pub(crate) fn finish(&mut self) -> Result<(), GeneratorFault> {
-        if self.marked == 0 {
-            return Err(GeneratorFault::NoMark);
-        }
-        if self.depth > self.marks[self.marked - 1] {
+        let mark = *self.marks.last().ok_or(GeneratorFault::NoMark)?;
+        if self.binders.len() > mark {
             return Err(GeneratorFault::StillOpen);
         }
-        self.marked -= 1;
+        self.marks.pop();
         Ok(())
     }
 
     pub(crate) fn leave(&mut self) -> Result<(), GeneratorFault> {
-        if self.marked == 0 {
-            return Err(GeneratorFault::NoMark);
-        }
-        self.marked -= 1;
-        self.depth = self.depth.min(self.marks[self.marked]);
+        let mark = self.marks.pop().ok_or(GeneratorFault::NoMark)?;
+        self.binders.truncate(mark);
         Ok(())
     }
 }

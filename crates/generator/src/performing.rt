@@ -4,21 +4,19 @@ ghost use Rattle.std.specs.Prelude.{◌≡◌};
 use crate::answer::Answer;
 use crate::fault::GeneratorFault;
 use crate::generator::Generator;
-use crate::reading::slot;
 use model::call::Call;
 use store::meaning::Store;
 
 impl<S: Store> Generator<S> {
-    // Performs the call; a print goes into the output from the place on.
+    // Performs the call; a print goes into the output from the place on, which are lent as the caller has them, and
+    // become a page once a print is granted.
     pub fn perform(
         &mut self,
         call: Call,
         output: &mut [u8],
         place: usize,
-    ) -> Result<Answer, GeneratorFault>
-        requires { S.Store.valid self.old.store }
-        ensures stays { S.Store.valid self.new.store }
-    {
+    ) -> Result<Answer, GeneratorFault> {
+        // A match, and no table of closures: each call has arguments and an answer of its own.
         match call {
             Call::Num { cell, value } => self.num(cell, value)?,
             Call::Truth { cell, truth } => self.truth(cell, truth)?,
@@ -61,19 +59,18 @@ impl<S: Store> Generator<S> {
 
     // Puts the names of a cell that are not open, ascending, to the front of the list; answers how many fit.
     pub fn list_escaping(&self, cell: u8, list: &mut [u16]) -> usize {
-        let Ok(at) = slot(cell) else {
+        let Ok(piece) = self.table.read(cell) else {
             return 0;
         };
-        let Ok(piece) = self.table.read(at) else {
-            return 0;
-        };
-        let mut count = 0;
+        // Places one by one: a `zip` with the names that pass a filter was tried, and is not proved.
+        let mut places = list.iter_mut();
         for serial in piece.names.as_slice() {
-            if !self.table.is_open(*serial) && count < list.len() {
-                list[count] = *serial;
-                count += 1;
+            if !self.table.is_open(*serial)
+                && let Some(place) = places.next()
+            {
+                *place = *serial;
             }
         }
-        count
+        usize::from(self.table.escaping(&piece.names)).min(list.len())
     }
 }

@@ -1,7 +1,6 @@
 // What a call would make.
-ghost use Rattle.std.specs.Prelude.{◌<◌};
-
 use crate::binder::Binding;
+use crate::slot::Slot;
 use code::construct::Construct;
 use code::names::Names;
 use code::types::Ty;
@@ -17,11 +16,10 @@ pub enum Scope {
 // The code to make, what is known of it, and the cell that receives it.
 #[derive(Clone, Copy)]
 pub struct Plan {
-    pub(crate) to: usize,
+    pub(crate) to: Slot,
     pub(crate) construct: Construct,
     pub(crate) ty: Ty,
     pub(crate) size: u16,
     pub(crate) names: Names,
     pub(crate) scope: Scope,
-    ghost within: { to < 16 },
 }

@@ -1,10 +1,12 @@
-// The plans of the calls that leave the binders as they are.
-ghost use Rattle.std.specs.Prelude.{◌≡◌, Some, Ok, nat_le};
+// The plans of the calls that leave the binders as they are. Operators and truths come as numbers: what is planned is
+// the definition's, which judges numbers, so enums here would be no plainer. Each plan is written out: one for JOIN and
+// APPLY, or one that builds all, would take as many arguments as it saves lines.
+// That a plan leaves the binders alone is said of each: the type of plans serves those too that open and close.
+ghost use Rattle.std.specs.Prelude.{◌≡◌, ◌+◌, ◌≤◌, length, sum, Some, Ok, nat_le};
 ghost use Rattle.code.specs.Code.{Code};
-ghost use Rattle.code.specs.Numbers.{operator as operator_of};
 ghost use Rattle.store.specs.Meaning.{Codes, meant};
 ghost use Rattle.generator.specs.declared.table.Table.{Table as KeptTable};
-ghost use Rattle.model.specs.Model.{stated, judge, lawful as lawful_of, typed as typed_of, too_large, leaf, join_plan, choose_plan, apply_plan};
+ghost use Rattle.model.specs.Model.{stated, judge, typed as typed_of, too_large, leaf, join_plan, choose_plan, apply_plan};
 ghost use Rattle.model.specs.Calls.{num_plan, truth_plan, input_plan};
 ghost use Rattle.generator.specs.Reads.{read, read_result};
 ghost use Rattle.generator.specs.Standing.{Stands};
@@ -13,18 +15,21 @@ ghost use Rattle.generator.specs.Plans.{Keeping};
 
 use crate::fault::GeneratorFault;
 use crate::plan::{Plan, Scope};
-use crate::reading::slot;
-use crate::table::{LARGEST, Table};
+use crate::slot::Slot;
+use crate::table::Table;
 use code::construct::Construct;
 use code::names::Names;
 use code::operator::Operator;
 use code::types::{Base, Ty};
+use store::ledger::{INPUTS, LARGEST};
 
-// The size, where it is not too large.
-pub(crate) fn judge_size(size: u32) -> Result<u16, GeneratorFault>
-    ensures { read_result (λ n. n) result ≡ judge (nat_le size 4096) too_large (Ok size) }
+// The size of a construct over parts of these sizes, where it is not too large.
+pub(crate) fn judge_size(parts: &[u16]) -> Result<u16, GeneratorFault>
+    requires { length parts.now ≤ 3 }
+    ensures { read_result (λ n. n) result ≡ judge (nat_le (1 + sum parts.now) 4096) too_large (Ok (1 + sum parts.now)) }
 {
-    if size > LARGEST {
+    let size = 1 + parts.iter().map(|part| u32::from(*part)).sum::<u32>();
+    if size > u32::from(LARGEST) {
         return Err(GeneratorFault::TooLarge);
     }
     Ok(size as u16)
@@ -37,19 +42,12 @@ pub(crate) fn judge_type(ty: Option<Ty>) -> Result<Ty, GeneratorFault>
     ty.ok_or(GeneratorFault::WrongType)
 }
 
-// The operator of a number.
-fn judge_operator(number: u8) -> Result<Operator, GeneratorFault>
-    ensures { read_result (λ o. o) result ≡ lawful_of (operator_of number) Ok }
-{
-    Operator::from_number(number).ok_or(GeneratorFault::BadArgument)
-}
-
 // A construct without parts, into a cell.
 pub(crate) fn plan_leaf(cell: u8, construct: Construct, base: Base) -> Result<Plan, GeneratorFault>
     ensures keeps { Keeping result }
     ensures planned { (code : Codes) (t : KeptTable) (x : Code) → meant code construct ≡ Some x → Planned code t (leaf (read code t) cell x (Ty.Plain base)) result }
 {
-    let to = slot(cell)?;
+    let to = Slot::try_from(cell)?;
     Ok(Plan {
         to,
         construct,
@@ -81,7 +79,7 @@ pub(crate) fn plan_input(cell: u8, input: u8) -> Result<Plan, GeneratorFault>
     ensures keeps { Keeping result }
     ensures planned { (code : Codes) (t : KeptTable) → Planned code t (input_plan (read code t) cell input) result }
 {
-    if input > 7 {
+    if input >= INPUTS {
         return Err(GeneratorFault::BadArgument);
     }
     plan_leaf(cell, Construct::Input(input), Base::Number)
@@ -98,11 +96,11 @@ impl Table {
         ensures keeps { Keeping result }
         ensures planned { (code : Codes) → Stands code self.now → Planned code self.now (join_plan stated (read code self.now) cell operator left right) result }
     {
-        let to = slot(cell)?;
-        let operator = judge_operator(operator)?;
-        let (x, y) = self.read_two(left, right)?;
+        let to = Slot::try_from(cell)?;
+        let operator = Operator::try_from(operator)?;
+        let [x, y] = self.read_each([left, right])?;
         let ty = judge_type(Ty::joined(operator, x.ty, y.ty))?;
-        let size = judge_size(1 + x.size as u32 + y.size as u32)?;
+        let size = judge_size(&[x.size, y.size])?;
         let construct = Construct::Join(operator, x.handle, y.handle);
         Ok(Plan {
             to,
@@ -124,10 +122,10 @@ impl Table {
         ensures keeps { Keeping result }
         ensures planned { (code : Codes) → Stands code self.now → Planned code self.now (choose_plan stated (read code self.now) cell condition then otherwise) result }
     {
-        let to = slot(cell)?;
-        let (x, y, z) = self.read_three(condition, then, otherwise)?;
+        let to = Slot::try_from(cell)?;
+        let [x, y, z] = self.read_each([condition, then, otherwise])?;
         let ty = judge_type(Ty::chosen(x.ty, y.ty, z.ty))?;
-        let size = judge_size(1 + x.size as u32 + y.size as u32 + z.size as u32)?;
+        let size = judge_size(&[x.size, y.size, z.size])?;
         let construct = Construct::Choose(x.handle, y.handle, z.handle);
         let names = x.names.merge(&y.names.merge(&z.names));
         Ok(Plan {
@@ -149,10 +147,10 @@ impl Table {
         ensures keeps { Keeping result }
         ensures planned { (code : Codes) → Stands code self.now → Planned code self.now (apply_plan stated (read code self.now) cell function argument) result }
     {
-        let to = slot(cell)?;
-        let (x, y) = self.read_two(function, argument)?;
+        let to = Slot::try_from(cell)?;
+        let [x, y] = self.read_each([function, argument])?;
         let ty = judge_type(Ty::applied(x.ty, y.ty))?;
-        let size = judge_size(1 + x.size as u32 + y.size as u32)?;
+        let size = judge_size(&[x.size, y.size])?;
         let construct = Construct::Apply(x.handle, y.handle);
         Ok(Plan {
             to,

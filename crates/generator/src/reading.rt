@@ -1,41 +1,35 @@
 // What a call reads of the table, and the refusals that it judges first.
-ghost use Rattle.std.specs.Prelude.{◌≡◌, ℕ, ◌<◌, length, Ok, Err, slice_index_or};
-ghost use Rattle.code.specs.Serials.{names as serials_of};
+ghost use Rattle.std.specs.Prelude.{◌≡◌, ℕ, ◌<◌, length, map};
 ghost use Rattle.store.specs.Meaning.{Codes};
-ghost use Rattle.generator.specs.declared.cell.Cell.TheVariants.{Empty};
 ghost use Rattle.model.specs.Model.{is_open, escaping};
 ghost use Rattle.generator.specs.Reads.{read, read_binders, read_result, read_piece};
-ghost use Rattle.generator.specs.Reading.{Slot, slot_of, held, HeldAt, may_use, ReadOne, ReadTwo, ReadThree};
+ghost use Rattle.generator.specs.Reading.{slot_of, judge_each, held_at, may_use_each, ReadEach};
 
-use crate::binder::{Binder, Binding};
-use crate::cell::{Cell, Piece};
+use crate::binder::Binder;
+use crate::cell::Piece;
 use crate::fault::GeneratorFault;
-use crate::table::{CELLS, Table};
+use crate::slot::Slot;
+use crate::table::Table;
 use code::names::Names;
-use code::types::Base;
 use store::search::find;
 
-// The place of a cell that a caller names by number.
-pub(crate) fn slot(cell: u8) -> Result<usize, GeneratorFault>
-    ensures place { Slot cell result }
-    ensures judged { read_result (λ n. n) result ≡ slot_of cell }
+// Refuses numbers of which one is no cell's.
+fn judge_numbers(cells: &[u8]) -> Result<(), GeneratorFault>
+    ensures { read_result (λ u. u) result ≡ judge_each slot_of cells.now }
 {
-    let at = cell as usize;
-    if at < CELLS {
-        Ok(at)
-    } else {
-        Err(GeneratorFault::BadArgument)
+    for cell in cells {
+        Slot::try_from(*cell)?;
     }
+    Ok(())
 }
 
 impl Table {
     // The code in a cell.
-    pub(crate) fn read(&self, at: usize) -> Result<Piece, GeneratorFault>
-        requires { at < 16 }
-        ensures value { result ≡ held (slice_index_or self.now.cells at Empty) }
-        ensures cell { HeldAt self.now.cells at result }
+    pub(crate) fn read(&self, cell: u8) -> Result<Piece, GeneratorFault>
+        ensures { result ≡ held_at self.now cell }
     {
-        let Cell::Full(piece) = self.cells[at] else {
+        // The content is taken apart, or the refusal given, in one form for every call that reads a cell.
+        let Some(piece) = self.cells[Slot::try_from(cell)?.at].content else {
             return Err(GeneratorFault::EmptyCell);
         };
         Ok(piece)
@@ -46,80 +40,47 @@ impl Table {
     {
         let wanted = Binder {
             serial,
-            binding: Binding::Parameter(Base::Number),
+            ..Binder::default()
         };
-        find(&self.binders[0..self.depth], &wanted).is_some()
+        find(&self.binders, &wanted).is_some()
     }
 
     // How many of the names are not open.
     pub(crate) fn escaping(&self, used: &Names) -> u8
-        ensures { (code : Codes) → result ≡ length (escaping (read_binders code self.now) (serials_of used.now)) }
+        ensures { (code : Codes) → result ≡ length (escaping (read_binders code self.now) used.now) }
     {
-        let mut count = 0;
-        for serial in used.as_slice() {
-            if !self.is_open(*serial) {
-                count += 1;
-            }
-        }
-        count
+        let escaped = used.as_slice().iter().filter(|s| !self.is_open(**s));
+        escaped.count() as u8
     }
 
-    // Refuses code with a name that is not open.
-    pub(crate) fn judge_use(&self, at: usize, piece: &Piece) -> Result<(), GeneratorFault>
-        requires { at < 16 }
-        ensures { (code : Codes) → read_result (λ u. u) result ≡ may_use (read code self.now) at (read_piece code piece.now) }
+    // Refuses the first code with a name that is not open. What was named and what was read stand side by side, as in
+    // the definition.
+    fn judge_uses(&self, cells: &[u8], pieces: &[Piece]) -> Result<(), GeneratorFault>
+        ensures { (code : Codes) → read_result (λ u. u) result ≡ may_use_each (read code self.now) cells.now (map (read_piece code) pieces.now) }
     {
-        let names = self.escaping(&piece.names);
-        if names > 0 {
-            return Err(GeneratorFault::Escaped {
-                cell: at as u8,
-                names,
-            });
+        for (cell, piece) in cells.iter().zip(pieces) {
+            let names = self.escaping(&piece.names);
+            if names > 0 {
+                return Err(GeneratorFault::Escaped { cell: *cell, names });
+            }
         }
         Ok(())
     }
 
-    // The code of a cell that a call uses.
-    pub(crate) fn read_one(&self, cell: u8) -> Result<Piece, GeneratorFault>
-        ensures { ReadOne self.now cell result }
-    {
-        let a = slot(cell)?;
-        let x = self.read(a)?;
-        self.judge_use(a, &x)?;
-        Ok(x)
-    }
-
-    // The codes of two cells: none may be empty, before any is judged as escaped.
-    pub(crate) fn read_two(&self, first: u8, second: u8) -> Result<(Piece, Piece), GeneratorFault>
-        ensures { ReadTwo self.now first second result }
-    {
-        let a = slot(first)?;
-        let b = slot(second)?;
-        let x = self.read(a)?;
-        let y = self.read(b)?;
-        self.judge_use(a, &x)?;
-        self.judge_use(b, &y)?;
-        Ok((x, y))
-    }
-
-    // The codes of three cells.
-    pub(crate) fn read_three(
+    // The codes of the cells that a call uses: every number is judged before any cell, and every cell before any code.
+    pub(crate) fn read_each<const N: usize>(
         &self,
-        first: u8,
-        second: u8,
-        third: u8,
-    ) -> Result<(Piece, Piece, Piece), GeneratorFault>
-        ensures { ReadThree self.now first second third result }
+        cells: [u8; N],
+    ) -> Result<[Piece; N], GeneratorFault>
+        ensures { ReadEach self.now cells.entry result }
     {
-        let a = slot(first)?;
-        let b = slot(second)?;
-        let d = slot(third)?;
-        let x = self.read(a)?;
-        let y = self.read(b)?;
-        let z = self.read(d)?;
-        self.judge_use(a, &x)?;
-        self.judge_use(b, &y)?;
-        self.judge_use(d, &z)?;
-        Ok((x, y, z))
+        judge_numbers(&cells)?;
+        // A loop: by `try_map`, which was tried, nothing proves that the closure reads this table.
+        let mut pieces = [Piece::default(); N];
+        for (i, cell) in cells.iter().enumerate() {
+            pieces[i] = self.read(*cell)?;
+        }
+        self.judge_uses(&cells, &pieces)?;
+        Ok(pieces)
     }
 }

@@ -3,6 +3,7 @@ ghost use Rattle.std.specs.Prelude.{◌≤◌};
 
 use crate::binder::Binder;
 use crate::cell::Cell;
+use arrayvec::ArrayVec;
 
 pub const CELLS: usize = 16;
 
@@ -10,20 +11,31 @@ pub const MOST_BINDERS: usize = 16;
 
 pub const MOST_MARKS: usize = 8;
 
-pub const MOST_SERIALS: u16 = 4096;
-
-pub const LARGEST: u32 = 4096;
-
-// A mark is the number of binders that were open when it was set.
-#[derive(Clone, Copy)]
+// The binders and marks are in order of opening. A mark is the number of binders that were open when it was set.
+#[derive(Drop)]
 pub struct Table {
-    pub(crate) cells: [Cell; 16],
-    pub(crate) binders: [Binder; 16],
-    pub(crate) depth: usize,
-    pub(crate) marks: [usize; 8],
-    pub(crate) marked: usize,
+    pub(crate) cells: [Cell; CELLS],
+    pub(crate) binders: ArrayVec<Binder, MOST_BINDERS>,
+    pub(crate) marks: ArrayVec<usize, MOST_MARKS>,
     pub(crate) next: u16,
-    ghost few: { depth ≤ 16 },
-    ghost shallow: { marked ≤ 8 },
     ghost given: { next ≤ 4096 },
+}
+
+impl Table {
+    ghost use Rattle.std.specs.Prelude.{◌≡◌};
+    ghost use Rattle.store.specs.Meaning.{Codes};
+    ghost use Rattle.model.specs.Model.{fresh};
+    ghost use Rattle.generator.specs.Reads.{read};
+
+    // All cells empty, no binder open, no mark, the first serial 0.
+    pub(crate) fn new() -> Table
+        ensures { (code : Codes) → read code result ≡ fresh }
+    {
+        Table {
+            cells: [Cell::EMPTY; CELLS],
+            binders: ArrayVec::new(),
+            marks: ArrayVec::new(),
+            next: 0,
+        }
+    }
 }
