@@ -1,11 +1,12 @@
 -- What is read at a place, by the bytes that are left there.
-use Rattle.std.proofs.Common.{◌≡◌, ℕ, ◌+◌, ◌-◌, ◌<◌, ◌≤◌, leb, List, length, get_or, take, drop, Some, None, Ok, Option, sym, refl, ap, ◌∙◌, add-zero, arith, length-drop}
-use Rattle.std.proofs.lemmas.List.{get_or_past, get_or-drop, drop-drop, take_rest}
-use Rattle.std.proofs.lemmas.Bool.{cond-true, cond-false, cond_both, le-leb, lt-leb, leb-true}
+use Rattle.std.proofs.Common.{◌≡◌, ℕ, ◌+◌, ◌-◌, ◌≤◌, leb, List, length, get_or, take, drop, Some, None, Ok, Err, Option, ok_or, sym, refl, ap, ◌∙◌, add-zero, arith, length-drop}
+use Rattle.std.proofs.lemmas.List.{get_or-drop, drop-drop, take_rest}
+use Rattle.std.proofs.lemmas.Bool.{cond-true, cond-false, cond_both, le-leb, lt-leb, leb-true, leb-false}
 use Rattle.script.specs.declared.kind.Kind.{Kind}
 use Rattle.script.specs.declared.step.Step.{Step}
-use Rattle.script.specs.declared.step.Misread.TheVariants.{UnknownKind, CutShort}
-use Rattle.script.specs.Steps.{form, kind_of, Read, read_kind, read_step, read_value, read_place, misread, step_to}
+use Rattle.script.specs.declared.step.Misread.{Misread}
+use Rattle.script.specs.declared.step.Misread.TheVariants.{UnknownKind}
+use Rattle.script.specs.Steps.{form, kind_of, known_kind, step_of_body, read_kind, read_step, read_value, step_to}
 
 module _ (script rest : List ℕ) (place : ℕ) (left : rest ≡ drop place script) where
   -- the bytes after the first
@@ -18,27 +19,21 @@ module _ (script rest : List ℕ) (place : ℕ) (left : rest ≡ drop place scri
   body_length : length body ≡ length script - (place + 1)
   body_length = ap length body_is ∙ length-drop (place + 1) script
 
-  -- a body of n bytes ends within the script
-  pub fits : (n : ℕ) → 1 ≤ length rest → n ≤ length body → place + 1 + n ≤ length script
-  fits n one le = omega (arith, body_length, ap length left, length-drop place script)
-
   -- the kind is that of the first byte
   by_kind : (o : Option Kind) → o ≡ kind_of (get_or rest 0 0) → read_step script place ≡ read_kind script place o
   by_kind o e =
       ap (λ (b : ℕ). read_kind script place (kind_of b)) (sym (ap (λ (xs : List ℕ). get_or xs 0 0) left ∙ get_or-drop place script 0 0 ∙ ap (λ (n : ℕ). get_or script n 0) (add-zero place)))
       ∙ ap (read_kind script place) (sym e)
 
-  pub read_ended : length rest < 1 → read_step script place ≡ misread UnknownKind
-  read_ended lt =
-      ap (λ (b : ℕ). read_kind script place (kind_of b)) (get_or_past script place 0 (omega (arith, ap length left, length-drop place script)))
-
-  pub read_unknown : None ≡ kind_of (get_or rest 0 0) → read_step script place ≡ misread UnknownKind
-  read_unknown none = by_kind None none
-
-  pub read_short : (k : Kind) → Some k ≡ kind_of (get_or rest 0 0) → length body < (form k).body → read_step script place ≡ misread CutShort
-  read_short k some lt =
-      by_kind (Some k) some
-      ∙ cond-false _ _ _ (lt-leb (place + 1 + (form k).body) (length script) (omega (arith, body_length)))
+  -- what the kind doesn't read is a misreading of the step
+  pub read_refused : (k : Kind) (m : Misread) → Ok k ≡ known_kind (get_or rest 0 0) → Err m ≡ step_of_body (form k) body → Err m ≡ read_value (read_step script place)
+  read_refused k m kind =
+      cond_both (leb (form k).body (length body)) _ _ (λ r. Err m ≡ r → Err m ≡ read_value (read_step script place)) (λ t e. absurd cc)
+      (λ f e. e ∙ sym (ap read_value (by_kind (Some k) (some (kind_of (get_or rest 0 0)) kind) ∙ cond-false _ _ _ (lt-leb (place + 1 + (form k).body) (length script) (omega (arith, body_length, leb-false _ _ f))))))
+    where
+      some : (o : Option Kind) → Ok k ≡ ok_or o UnknownKind → Some k ≡ o
+      some None q = cc
+      some (Some l) q = cc
 
   pub read_whole :
       (k : Kind) → Some k ≡ kind_of (get_or rest 0 0) → place + 1 + (form k).body ≤ length script
@@ -60,23 +55,8 @@ pub whole : (script : List ℕ) (place : ℕ) (s : Step) (after : ℕ) → read_
 whole script place s after = go (kind_of (get_or script place 0)) refl
   where
     go : (o : Option Kind) → kind_of (get_or script place 0) ≡ o → read_kind script place o ≡ step_to s after → Whole script place s after
-    go None e = λ q. absurd (let z : ◌≡◌ {A = ℕ} 0 1 = cc in omega arith)
+    go None e = λ q. absurd cc
     go (Some k) e =
         cond_both (leb (place + 1 + (form k).body) (length script)) _ _ (λ x. x ≡ step_to s after → Whole script place s after)
         (λ t q. record { kind = k; told = e; fits = leb-true (place + 1 + (form k).body) (length script) t; step = cc; ends = cc })
-        (λ f q. absurd (let z : ◌≡◌ {A = ℕ} 0 1 = cc in omega arith))
-
--- a step that is read takes a byte or more, and ends within the script
-pub read_after : (script : List ℕ) (place : ℕ) (s : Step) (after : ℕ) → read_step script place ≡ step_to s after → place < after
-read_after script place s after e = omega (arith, (whole script place s after e).ends)
-
-pub read_within : (script : List ℕ) (place : ℕ) (s : Step) (after : ℕ) → read_step script place ≡ step_to s after → after ≤ length script
-read_within script place s after e = omega (arith, (whole script place s after e).ends, (whole script place s after e).fits)
-
--- the place goes on past what is read
-pub read_on : (script : List ℕ) (place : ℕ) (s : Step) (at : ℕ) → Ok s ≡ read_value (read_step script place) → at ≡ read_place place (read_step script place) → place < at
-read_on script place s at = go (read_step script place) refl
-  where
-    go : (r : Read) → read_step script place ≡ r → Ok s ≡ read_value r → at ≡ read_place place r → place < at
-    go (misread m) e q is = absurd (let z : ◌≡◌ {A = ℕ} 0 1 = cc in omega arith)
-    go (step_to t after) e q is = omega (arith, read_after script place t after e)
+        (λ f q. absurd cc)

@@ -15,7 +15,7 @@ use Rattle.script.proofs.Readings.{Whole, whole}
 
 -- what is found by a number has it
 number_told : {A : Type 0} (number : A → ℕ) (xs : List A) (n : ℕ) (x : A) → with_number number xs n ≡ Some x → number x ≡ n
-number_told number [] n x = λ e. absurd (let z : ◌≡◌ {A = ℕ} 0 1 = cc in omega arith)
+number_told number [] n x = λ e. absurd cc
 number_told {A} number (y ∷ ys) n x =
     cond_both (eqb (number y) n) (Some y) (with_number number ys n) (λ o. o ≡ Some x → number x ≡ n)
     (λ t q. let same : y ≡ x = cc in ap number (sym same) ∙ eqb-true (number y) n t)

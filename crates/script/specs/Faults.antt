@@ -1,5 +1,5 @@
 -- The refusal that a script's fault is.
-use Rattle.std.specs.Prelude.{ℕ}
+use Rattle.std.specs.Prelude.{ℕ, Option, Some, None, unwrap_or}
 use Rattle.code.specs.declared.refusal.Refusal.{Refusal}
 use Rattle.code.specs.declared.refusal.Refusal.TheVariants as refusal
 use Rattle.generator.specs.declared.fault.GeneratorFault.{GeneratorFault}
@@ -15,22 +15,26 @@ refused_as (Misread m) = refusal_of m
 refused_as (Generator f) = Faults.refused_as f
 
 -- how many names an escape holds that are not open
-abbrev pub names_escaped : GeneratorFault → ℕ
-names_escaped generator.BadArgument = 0
-names_escaped generator.EmptyCell = 0
-names_escaped (generator.Escaped cell names) = names
-names_escaped generator.NoBinder = 0
-names_escaped generator.NoMark = 0
-names_escaped generator.StillOpen = 0
-names_escaped generator.NotClosed = 0
-names_escaped generator.WrongType = 0
-names_escaped generator.TooDeep = 0
-names_escaped generator.NamesSpent = 0
-names_escaped generator.TooLarge = 0
-names_escaped generator.ShortOutput = 0
-names_escaped (generator.Store f) = 0
+abbrev pub escape_names : GeneratorFault → Option ℕ
+escape_names generator.BadArgument = None
+escape_names generator.EmptyCell = None
+escape_names (generator.Escaped cell names) = Some names
+escape_names generator.NoBinder = None
+escape_names generator.NoMark = None
+escape_names generator.StillOpen = None
+escape_names generator.NotClosed = None
+escape_names generator.WrongType = None
+escape_names generator.TooDeep = None
+escape_names generator.NamesSpent = None
+escape_names generator.TooLarge = None
+escape_names generator.ShortOutput = None
+escape_names (generator.Store f) = None
 
+abbrev pub escaped : Cause → Option ℕ
+escaped BadArgument = None
+escaped (Misread m) = None
+escaped (Generator f) = escape_names f
+
+-- the same, 0 where it is none
 abbrev pub escape_count : Cause → ℕ
-escape_count BadArgument = 0
-escape_count (Misread m) = 0
-escape_count (Generator f) = names_escaped f
+escape_count c = unwrap_or (escaped c) 0

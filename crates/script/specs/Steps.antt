@@ -1,5 +1,5 @@
 -- The steps of a script, read from its bytes.
-use Rattle.std.specs.Prelude.{ℕ, ◌+◌, ◌-◌, ◌*◌, ◌^◌, cond, List, [], ◌∷◌, length, ℤ, pos, negsuc, Some, None, Ok, Err, Option, Result, nat_le, nat_lt, slice_index}
+use Rattle.std.specs.Prelude.{ℕ, ◌+◌, ◌-◌, ◌*◌, ◌^◌, List, [], ◌∷◌, length, ℤ, pos, negsuc, Some, None, Ok, Err, Option, Result, nat_le, nat_lt, ok_or, slice_index, if◌then◌else◌}
 use Rattle.code.specs.Numbers.{with_number}
 use Rattle.code.specs.declared.refusal.Refusal.{Refusal}
 use Rattle.code.specs.declared.refusal.Refusal.TheVariants as refusal
@@ -13,7 +13,7 @@ use Rattle.script.specs.declared.step.Misread.TheVariants.{UnknownKind, CutShort
 
 -- the number that 32 bits spell
 abbrev pub signed32 : ℕ → ℤ
-signed32 n = cond (nat_lt n (2 ^ 31)) (pos n) (negsuc (2 ^ 32 - 1 - n))
+signed32 n = if nat_lt n (2 ^ 31) then pos n else negsuc (2 ^ 32 - 1 - n)
 
 -- the number that four bytes spell, the low byte first
 abbrev pub little : ℕ → ℕ → ℕ → ℕ → ℤ
@@ -51,6 +51,14 @@ kinds =
 abbrev pub kind_of : ℕ → Option Kind
 kind_of = with_number (λ k. (form k).byte) kinds
 
+-- the same, or that no kind has the byte
+abbrev pub known_kind : ℕ → Result Kind Misread
+known_kind byte = ok_or (kind_of byte) UnknownKind
+
+-- the step that a body begins with, or that the body runs past the end
+abbrev pub step_of_body : Form → List ℕ → Result Step Misread
+step_of_body f body = if nat_le f.body (length body) then Ok (f.step (λ i. slice_index body i)) else Err CutShort
+
 -- what is read at a place
 pub data Read : Type 0 where
   misread : Misread → Read
@@ -60,9 +68,9 @@ pub data Read : Type 0 where
 abbrev pub read_kind : List ℕ → ℕ → Option Kind → Read
 read_kind script place None = misread UnknownKind
 read_kind script place (Some k) =
-    cond (nat_le (place + 1 + (form k).body) (length script))
-    (step_to ((form k).step (λ i. slice_index script (place + 1 + i))) (place + 1 + (form k).body))
-    (misread CutShort)
+    if nat_le (place + 1 + (form k).body) (length script)
+    then step_to ((form k).step (λ i. slice_index script (place + 1 + i))) (place + 1 + (form k).body)
+    else misread CutShort
 
 -- the step that stands at a place; past the end there is none
 abbrev pub read_step : List ℕ → ℕ → Read

@@ -1,6 +1,6 @@
 // A place in a script.
-ghost use Rattle.std.specs.Prelude.{◌≡◌, ◌≤◌, length, drop, nat_le};
-ghost use Rattle.script.specs.Steps.{read_step, read_value, read_place};
+ghost use Rattle.std.specs.Prelude.{◌≡◌, ◌≤◌, length, drop, nat_le, slice_index};
+ghost use Rattle.script.specs.Steps.{known_kind, read_step, read_value, read_place};
 
 use crate::kind::Kind;
 use crate::step::{Misread, Step};
@@ -41,6 +41,22 @@ impl<'a> Cursor<'a> {
         &self.script[self.place..]
     }
 
+    // To the end: nothing is left.
+    pub(crate) fn finish(&mut self)
+        ensures script { self.new.script.now ≡ self.old.script.now }
+        ensures place { self.new.place ≡ length self.old.script.now }
+    {
+        self.place = self.script.len();
+    }
+
+    // The kind of the step that the bytes left begin with.
+    pub(crate) fn kind(&self) -> Result<Kind, Misread>
+        ensures { result ≡ known_kind (slice_index self.now.script.now self.now.place) }
+    {
+        let byte = self.rest().first().ok_or(Misread::UnknownKind)?;
+        Kind::try_from(*byte)
+    }
+
     // The step that the bytes left begin with; the cursor goes past it, or stays where it is at a misreading.
     pub fn step(&mut self) -> Result<Step, Misread>
         ensures value { result ≡ read_value (read_step self.old.script.now self.old.place) }
@@ -50,14 +66,9 @@ impl<'a> Cursor<'a> {
         let [byte, body @ ..] = self.rest() else {
             return Err(Misread::UnknownKind);
         };
-        let Some(kind) = Kind::from_byte(*byte) else {
-            return Err(Misread::UnknownKind);
-        };
-        let length = kind.body_length();
-        if body.len() < length {
-            return Err(Misread::CutShort);
-        }
-        self.place += 1 + length;
-        Ok(kind.decode(body))
+        let kind = Kind::try_from(*byte)?;
+        let step = kind.decode(body)?;
+        self.place += 1 + kind.body_length();
+        Ok(step)
     }
 }

@@ -1,7 +1,7 @@
 // Why a script was refused, and where.
 ghost use Rattle.std.specs.Prelude.{◌≡◌};
 ghost use Rattle.script.specs.declared.fault.Cause.TheVariants.{Misread as Unread, Generator as Refused};
-ghost use Rattle.script.specs.Faults.{refused_as, escape_count};
+ghost use Rattle.script.specs.Faults.{refused_as, escaped, escape_count};
 
 use crate::step::Misread;
 use code::refusal::Refusal;
@@ -40,23 +40,39 @@ impl From<GeneratorFault> for Cause {
 }
 
 impl Cause {
-    pub fn refusal(self) -> Refusal
-        ensures { result ≡ refused_as self }
+    // The cause at the place of a step.
+    pub(crate) fn at(self, place: usize) -> RunFault
+        ensures { result ≡ record { place = place; cause = self } }
+    {
+        RunFault { place, cause: self }
+    }
+
+    // How many names an escape holds that are not open.
+    pub fn escaped(self) -> Option<u8>
+        ensures { result ≡ escaped self }
     {
         match self {
-            Cause::BadArgument => Refusal::BadArgument,
-            Cause::Misread(misread) => misread.refusal(),
-            Cause::Generator(fault) => fault.refusal(),
+            Cause::Generator(GeneratorFault::Escaped { names, .. }) => Some(names),
+            _ => None,
         }
     }
 
-    // How many names an escape holds that are not open, 0 where it is none.
+    // The same, 0 where it is none.
     pub fn escape_count(self) -> u8
         ensures { result ≡ escape_count self }
     {
-        match self {
-            Cause::Generator(GeneratorFault::Escaped { names, .. }) => names,
-            _ => 0,
+        self.escaped().unwrap_or(0)
+    }
+}
+
+impl From<Cause> for Refusal {
+    ghost from_gives = { λ cause refusal. refusal ≡ refused_as cause };
+
+    fn from(cause: Cause) -> Refusal {
+        match cause {
+            Cause::BadArgument => Refusal::BadArgument,
+            Cause::Misread(misread) => Refusal::from(misread),
+            Cause::Generator(fault) => Refusal::from(fault),
         }
     }
 }

@@ -1,8 +1,8 @@
 // The kinds of steps: the byte of each, and the form of its body.
-ghost use Rattle.std.specs.Prelude.{◌≡◌, ◌≤◌, length, slice_index};
-ghost use Rattle.script.specs.Steps.{little, form, kind_of};
+ghost use Rattle.std.specs.Prelude.{◌≡◌, slice_index};
+ghost use Rattle.script.specs.Steps.{little, form, known_kind, step_of_body};
 
-use crate::step::Step;
+use crate::step::{Misread, Step};
 use model::call::Call;
 
 #[derive(Clone, Copy)]
@@ -24,31 +24,35 @@ pub enum Kind {
     Leave,
 }
 
-impl Kind {
-    // The kind that has the byte, or none.
-    pub fn from_byte(byte: u8) -> Option<Kind>
-        ensures { result ≡ kind_of byte }
-    {
+// The kind that has the byte.
+impl TryFrom<u8> for Kind {
+    type Error = Misread;
+
+    ghost try_from_gives = { λ byte r. r ≡ known_kind byte };
+
+    fn try_from(byte: u8) -> Result<Kind, Misread> {
         match byte {
-            0x01 => Some(Kind::Num),
-            0x02 => Some(Kind::Truth),
-            0x03 => Some(Kind::Input),
-            0x04 => Some(Kind::Join),
-            0x05 => Some(Kind::Choose),
-            0x06 => Some(Kind::Apply),
-            0x07 => Some(Kind::Fun),
-            0x08 => Some(Kind::Let),
-            0x09 => Some(Kind::Close),
-            0x0a => Some(Kind::Copy),
-            0x0b => Some(Kind::Clear),
-            0x0c => Some(Kind::Print),
-            0x10 => Some(Kind::Begin),
-            0x11 => Some(Kind::End),
-            0x12 => Some(Kind::Leave),
-            _ => None,
+            0x01 => Ok(Kind::Num),
+            0x02 => Ok(Kind::Truth),
+            0x03 => Ok(Kind::Input),
+            0x04 => Ok(Kind::Join),
+            0x05 => Ok(Kind::Choose),
+            0x06 => Ok(Kind::Apply),
+            0x07 => Ok(Kind::Fun),
+            0x08 => Ok(Kind::Let),
+            0x09 => Ok(Kind::Close),
+            0x0a => Ok(Kind::Copy),
+            0x0b => Ok(Kind::Clear),
+            0x0c => Ok(Kind::Print),
+            0x10 => Ok(Kind::Begin),
+            0x11 => Ok(Kind::End),
+            0x12 => Ok(Kind::Leave),
+            _ => Err(Misread::UnknownKind),
         }
     }
+}
 
+impl Kind {
     // How many bytes follow the kind's.
     pub fn body_length(self) -> usize
         ensures { result ≡ (form self).body }
@@ -63,63 +67,46 @@ impl Kind {
         }
     }
 
-    // The step that a body begins with.
-    pub fn decode(self, body: &[u8]) -> Step
-        requires { (form self).body ≤ length body.now }
-        ensures { result ≡ (form self).step (λ i. slice_index body.now i) }
+    // The step that a body begins with. No `TryFrom`: it reads the kind and a front of the bytes left.
+    pub fn decode(self, body: &[u8]) -> Result<Step, Misread>
+        ensures { result ≡ step_of_body (form self) body.now }
     {
-        match self {
-            Kind::Num => Step::Call(Call::Num {
-                cell: body[0],
-                value: number([body[1], body[2], body[3], body[4]]),
-            }),
-            Kind::Truth => Step::Call(Call::Truth {
-                cell: body[0],
-                truth: body[1],
-            }),
-            Kind::Input => Step::Call(Call::Input {
-                cell: body[0],
-                input: body[1],
-            }),
-            Kind::Join => Step::Call(Call::Join {
-                cell: body[0],
-                operator: body[1],
-                left: body[2],
-                right: body[3],
-            }),
-            Kind::Choose => Step::Call(Call::Choose {
-                cell: body[0],
-                condition: body[1],
-                then: body[2],
-                otherwise: body[3],
-            }),
-            Kind::Apply => Step::Call(Call::Apply {
-                cell: body[0],
-                function: body[1],
-                argument: body[2],
-            }),
-            Kind::Fun => Step::Call(Call::Fun {
-                cell: body[0],
-                parameter: body[1],
-            }),
-            Kind::Let => Step::Call(Call::Let {
-                cell: body[0],
-                bound: body[1],
-            }),
-            Kind::Close => Step::Call(Call::Close {
-                cell: body[0],
-                body: body[1],
-            }),
-            Kind::Copy => Step::Call(Call::Copy {
-                cell: body[0],
-                from: body[1],
-            }),
-            Kind::Clear => Step::Call(Call::Clear { cell: body[0] }),
-            Kind::Print => Step::Call(Call::Print { cell: body[0] }),
-            Kind::Begin => Step::Begin { turns: body[0] },
-            Kind::End => Step::End,
-            Kind::Leave => Step::Leave,
-        }
+        let call = match (self, body) {
+            (Kind::Num, &[cell, a, b, c, d, ..]) => Call::Num {
+                cell,
+                value: number([a, b, c, d]),
+            },
+            (Kind::Truth, &[cell, truth, ..]) => Call::Truth { cell, truth },
+            (Kind::Input, &[cell, input, ..]) => Call::Input { cell, input },
+            (Kind::Join, &[cell, operator, left, right, ..]) => Call::Join {
+                cell,
+                operator,
+                left,
+                right,
+            },
+            (Kind::Choose, &[cell, condition, then, otherwise, ..]) => Call::Choose {
+                cell,
+                condition,
+                then,
+                otherwise,
+            },
+            (Kind::Apply, &[cell, function, argument, ..]) => Call::Apply {
+                cell,
+                function,
+                argument,
+            },
+            (Kind::Fun, &[cell, parameter, ..]) => Call::Fun { cell, parameter },
+            (Kind::Let, &[cell, bound, ..]) => Call::Let { cell, bound },
+            (Kind::Close, &[cell, body, ..]) => Call::Close { cell, body },
+            (Kind::Copy, &[cell, from, ..]) => Call::Copy { cell, from },
+            (Kind::Clear, &[cell, ..]) => Call::Clear { cell },
+            (Kind::Print, &[cell, ..]) => Call::Print { cell },
+            (Kind::Begin, &[turns, ..]) => return Ok(Step::Begin { turns }),
+            (Kind::End, _) => return Ok(Step::End),
+            (Kind::Leave, _) => return Ok(Step::Leave),
+            _ => return Err(Misread::CutShort),
+        };
+        Ok(Step::Call(call))
     }
 }
 

@@ -2,15 +2,11 @@
 ghost use Rattle.script.specs.Written.{ReadsBack, ReadsOnly};
 
 // A step that is written as bytes is read back.
-pub fn steps_read_back() -> u8
+pub fn steps_read_back()
     ensures { ReadsBack }
-{
-    0
-}
+{}
 
 // A step is read only where its bytes stand.
-pub fn steps_read_only_their_bytes() -> u8
+pub fn steps_read_only_their_bytes()
     ensures { ReadsOnly }
-{
-    0
-}
+{}

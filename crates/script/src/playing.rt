@@ -1,9 +1,11 @@
 // Playing a script of calls from first to last, between a mark and its finish.
-ghost use Rattle.std.specs.Prelude.{◌≡◌, ℕ, ◌<◌, ◌≤◌};
+ghost use Rattle.std.specs.Prelude.{◌≡◌, ◌-◌, length};
+ghost use Rattle.std.specs.Iterator.{at_most};
 ghost use Rattle.script.specs.Playing.{GoesOn};
 
 use crate::cursor::Cursor;
 use crate::fault::{Cause, RunFault};
+use crate::kind::Kind;
 use crate::step::{Misread, Step};
 use generator::answer::Answer;
 use generator::fault::GeneratorFault;
@@ -23,11 +25,11 @@ pub struct RunAnswer {
     pub fault: Option<RunFault>,
 }
 
-// The next call; the steps of blocks are unknown kinds yet.
+// The next call; the steps of blocks are unknown kinds yet, also where a body is cut short.
 fn next_call(cursor: &mut Cursor) -> Result<Call, Misread>
     ensures { GoesOn cursor.old result cursor.new }
 {
-    if let [0x10..=0x12, ..] = cursor.rest() {
+    if let Kind::Begin | Kind::End | Kind::Leave = cursor.kind()? {
         return Err(Misread::UnknownKind);
     }
     match cursor.step()? {
@@ -36,147 +38,143 @@ fn next_call(cursor: &mut Cursor) -> Result<Call, Misread>
     }
 }
 
+// The calls of a script with their places, left to right; after a misreading there are no more.
+#[derive(Drop)]
+struct Calls<'a> {
+    cursor: Cursor<'a>,
+}
+
+impl<'a> Calls<'a> {
+    // From the script's start.
+    fn new(script: &'a [u8]) -> Calls<'a> {
+        let cursor = Cursor::new(script);
+        Calls { cursor }
+    }
+}
+
+impl Iterator for Calls<'_> {
+    type Item = Result<(usize, Call), RunFault>;
+
+    ghost remaining = { λ s. at_most (length s.cursor.script.now - s.cursor.place) };
+
+    fn next(&mut self) -> Option<Result<(usize, Call), RunFault>> {
+        if self.cursor.is_done() {
+            return None;
+        }
+        let place = self.cursor.place();
+        // A match: a misreading also ends the script, which `map_err` would hide.
+        match next_call(&mut self.cursor) {
+            Ok(call) => Some(Ok((place, call))),
+            Err(misread) => {
+                self.cursor.finish();
+                Some(Err(Cause::from(misread).at(place)))
+            }
+        }
+    }
+}
+
 // Judges the shape of the whole script, left to right.
 fn judge_shape(script: &[u8]) -> Result<(), RunFault> {
-    let mut cursor = Cursor::new(script);
-    while !cursor.is_done() {
-        let place = cursor.place();
-        match next_call(&mut cursor) {
-            Ok(_) => {}
-            Err(misread) => return Err(RunFault {
-                place,
-                cause: Cause::Misread(misread),
-            }),
-        }
+    for call in Calls::new(script) {
+        call?;
     }
     Ok(())
 }
 
-// Judges the arguments, then the shape, then sets the mark.
-fn begin<S: Store>(
-    generator: &mut Generator<S>,
-    script: &[u8],
-    lawful: bool,
-) -> Result<(), RunFault>
-    ensures kept { generator.new.store ≡ generator.old.store }
-{
-    if !lawful || script.len() > LONGEST_SCRIPT {
-        return Err(RunFault {
-            place: 0,
-            cause: Cause::BadArgument,
-        });
-    }
-    judge_shape(script)?;
-    match generator.mark() {
-        Ok(()) => Ok(()),
-        Err(fault) => Err(RunFault {
-            place: 0,
-            cause: Cause::Generator(fault),
-        }),
-    }
-}
-
-// How far a run has come.
-#[derive(Clone, Copy)]
-struct Progress {
+// A run of a script: what it works on, and how far it has come. Output and end are no page, as each print judges them
+// anew; the script and the list of serials stay parameters, as five loans in a struct would be no plainer.
+#[derive(Drop)]
+struct Run<'a, S> {
+    generator: &'a mut Generator<S>,
+    output: &'a mut [u8],
     end: usize,
     steps: usize,
 }
 
-// Performs one call, printing on.
-fn play_call<S: Store>(
-    generator: &mut Generator<S>,
-    call: Call,
-    output: &mut [u8],
-    progress: &mut Progress,
-) -> Result<(), Cause>
-    requires { S.Store.valid generator.old.store }
-    ensures stays { S.Store.valid generator.new.store }
-{
-    if let Answer::Printed { end } = generator.perform(call, output, progress.end)? {
-        progress.end = end;
+impl<S: Store> Run<'_, S> {
+    // Judges the arguments, then the shape, then sets the mark.
+    fn begin(&mut self, script: &[u8], serials: &[u16]) -> Result<(), RunFault>
+        ensures { self.new.generator.now.store ≡ self.old.generator.now.store }
+    {
+        self.judge_arguments(script, serials)
+            .map_err(|cause| cause.at(0))?;
+        judge_shape(script)?;
+        self.generator
+            .mark()
+            .map_err(|fault| Cause::from(fault).at(0))
     }
-    progress.steps = progress.steps.saturating_add(1);
-    Ok(())
-}
 
-// Plays the calls in their order, and stops at the first that is refused.
-fn play_calls<S: Store>(
-    generator: &mut Generator<S>,
-    script: &[u8],
-    output: &mut [u8],
-    progress: &mut Progress,
-) -> Result<(), RunFault>
-    requires { S.Store.valid generator.old.store }
-    ensures stays { S.Store.valid generator.new.store }
-{
-    let mut cursor = Cursor::new(script);
-    while !cursor.is_done() {
-        let place = cursor.place();
-        let call = match next_call(&mut cursor) {
-            Ok(call) => call,
-            Err(misread) => return Err(RunFault {
-                place,
-                cause: Cause::Misread(misread),
-            }),
-        };
-        match play_call(generator, call, output, progress) {
-            Ok(()) => {}
-            Err(cause) => return Err(RunFault { place, cause }),
+    fn judge_arguments(&self, script: &[u8], serials: &[u16]) -> Result<(), Cause> {
+        if self.end > self.output.len()
+            || serials.len() < SHORTEST_LIST
+            || script.len() > LONGEST_SCRIPT
+        {
+            return Err(Cause::BadArgument);
         }
+        Ok(())
     }
-    match generator.finish() {
-        Ok(()) => Ok(()),
-        Err(fault) => Err(RunFault {
-            place: script.len(),
-            cause: Cause::Generator(fault),
-        }),
+
+    // Performs one call, printing on.
+    fn perform(&mut self, call: Call) -> Result<(), Cause> {
+        if let Answer::Printed { end } = self.generator.perform(call, self.output, self.end)? {
+            self.end = end;
+        }
+        self.steps = self.steps.saturating_add(1);
+        Ok(())
+    }
+
+    // Performs the calls in their order, and stops at the first that is refused.
+    fn perform_all(&mut self, script: &[u8]) -> Result<(), RunFault> {
+        for call in Calls::new(script) {
+            let (place, call) = call?;
+            self.perform(call).map_err(|cause| cause.at(place))?;
+        }
+        self.generator
+            .finish()
+            .map_err(|fault| Cause::from(fault).at(script.len()))
+    }
+
+    // Leaves the mark after a refusal, the serials of an escape listed before.
+    fn stop(&mut self, cause: Cause, serials: &mut [u16])
+        ensures { self.new.generator.now.store ≡ self.old.generator.now.store }
+    {
+        if let Cause::Generator(GeneratorFault::Escaped { cell, .. }) = cause {
+            let _ = self.generator.list_escaping(cell, serials);
+        }
+        let _ = self.generator.leave();
+    }
+
+    // Plays the script between a mark and its finish; after a refusal past the mark leaves the mark.
+    fn play(&mut self, script: &[u8], serials: &mut [u16]) -> Result<(), RunFault> {
+        self.begin(script, serials)?;
+        let played = self.perform_all(script);
+        if let Err(fault) = played {
+            self.stop(fault.cause, serials);
+        }
+        played
     }
 }
 
 // Plays a script of calls: judges the arguments and the shape of the whole, marks, plays, printing on from the place,
 // and finishes. After a refusal past its mark it leaves the mark, and an escape's serials go to the front of the list.
+// Output and place come as the caller has them: a place beyond the output is a refusal of the run's own.
 pub fn play<S: Store>(
     generator: &mut Generator<S>,
     script: &[u8],
     output: &mut [u8],
     place: usize,
     serials: &mut [u16],
-) -> RunAnswer
-    requires { S.Store.valid generator.old.store }
-    ensures stays { S.Store.valid generator.new.store }
-{
-    let lawful = place <= output.len() && serials.len() >= SHORTEST_LIST;
-    let mut progress = Progress {
+) -> RunAnswer {
+    let mut run = Run {
+        generator,
+        output,
         end: place,
         steps: 0,
     };
-    if let Err(fault) = begin(generator, script, lawful) {
-        return RunAnswer {
-            end: place,
-            steps: 0,
-            fault: Some(fault),
-        };
-    }
-    let fault = match play_calls(generator, script, output, &mut progress) {
-        Ok(()) => None,
-        Err(fault) => Some(stop(generator, fault, serials)),
-    };
+    let fault = run.play(script, serials).err();
     RunAnswer {
-        end: progress.end,
-        steps: progress.steps,
+        end: run.end,
+        steps: run.steps,
         fault,
     }
-}
-
-// Leaves the mark after a refusal, the serials of an escape listed before.
-fn stop<S: Store>(generator: &mut Generator<S>, fault: RunFault, serials: &mut [u16]) -> RunFault
-    ensures kept { generator.new.store ≡ generator.old.store }
-    ensures same { result ≡ fault }
-{
-    if let Cause::Generator(GeneratorFault::Escaped { cell, .. }) = fault.cause {
-        let _ = generator.list_escaping(cell, serials);
-    }
-    let _ = generator.leave();
-    fault
 }

@@ -1,6 +1,6 @@
 // The report line of a run.
-ghost use Rattle.std.specs.Prelude.{◌≡◌, ℕ, ◌≤◌, ◌++◌, length};
-ghost use Rattle.text.specs.Page.{Laid};
+ghost use Rattle.std.specs.Prelude.{◌≡◌, ◌≤◌, length};
+ghost use Rattle.text.specs.Page.{Writes};
 ghost use Rattle.script.specs.Report.{tail, report_line, refused_as};
 
 use crate::fault::Cause;
@@ -8,7 +8,7 @@ use crate::playing::{RunAnswer, SHORTEST_LIST};
 use code::refusal::Refusal;
 use generator::fault::GeneratorFault;
 use store::meaning::StoreFault;
-use text::page::{put, put_serials, put_word_number};
+use text::page::Page;
 
 // Why no report was written.
 #[derive(Clone, Copy, PartialEq, Eq, Debug)]
@@ -17,11 +17,11 @@ pub enum ReportFault {
     ShortOutput,
 }
 
-impl ReportFault {
-    pub fn refusal(self) -> Refusal
-        ensures { result ≡ refused_as self }
-    {
-        match self {
+impl From<ReportFault> for Refusal {
+    ghost from_gives = { λ fault refusal. refusal ≡ refused_as fault };
+
+    fn from(fault: ReportFault) -> Refusal {
+        match fault {
             ReportFault::BadArgument => Refusal::BadArgument,
             ReportFault::ShortOutput => Refusal::ShortOutput,
         }
@@ -29,57 +29,62 @@ impl ReportFault {
 }
 
 // What an escape or a want of room adds to the line.
-fn put_tail(out: &mut [u8], at: usize, cause: Cause, serials: &[u16]) -> usize
+fn put_tail(page: &mut Page, cause: Cause, serials: &[u16])
     requires { 16 ≤ length serials.now }
-    ensures { Laid out.old at (tail cause serials.now) out.new result }
+    ensures { Writes page.old (tail cause serials.now) page.new }
 {
     match cause {
         Cause::Generator(GeneratorFault::Escaped { cell, names }) => {
-            let p = put_word_number(out, at, b" cell ", cell as u64);
-            let p = put(out, p, b":");
-            put_serials(out, p, &serials[0..names.min(16) as usize])
+            page.put_word_number(b" cell ", cell);
+            page.put(b":");
+            page.put_serials(&serials[..names.min(16) as usize]);
         }
         Cause::Generator(GeneratorFault::Store(StoreFault::NoRoom { wanted, free })) => {
-            let p = put_word_number(out, at, b": wanted ", wanted as u64);
-            put_word_number(out, p, b" free ", free as u64)
+            page.put_word_number(b": wanted ", wanted);
+            page.put_word_number(b" free ", free);
         }
-        _ => put(out, at, b""),
+        // no text, laid all the same: with `_ => {}` nothing shows that the page's place is in range
+        _ => page.put(b""),
     }
 }
 
-// The line of a run's answer.
-fn put_report(out: &mut [u8], at: usize, answer: &RunAnswer, serials: &[u16]) -> usize
+// The line of a run's answer: a match, since the two lines have nothing in common but their end.
+fn put_report(page: &mut Page, answer: &RunAnswer, serials: &[u16])
     requires { 16 ≤ length serials.now }
-    ensures { Laid out.old at (report_line answer.now serials.now) out.new result }
+    ensures { Writes page.old (report_line answer.now serials.now) page.new }
 {
-    let Some(fault) = answer.fault else {
-        let p = put_word_number(out, at, b"done ", answer.steps as u64);
-        return put(out, p, b"\n");
-    };
-    let p = put_word_number(out, at, b"refused ", fault.cause.refusal().number() as u64);
-    let p = put_word_number(out, p, b" at ", fault.place as u64);
-    let p = put_tail(out, p, fault.cause, serials);
-    put(out, p, b"\n")
+    match answer.fault {
+        None => page.put_word_number(b"done ", answer.steps),
+        Some(fault) => {
+            page.put_word_number(b"refused ", u8::from(Refusal::from(fault.cause)));
+            page.put_word_number(b" at ", fault.place);
+            put_tail(page, fault.cause, serials);
+        }
+    }
+    page.put(b"\n");
 }
 
-// Writes the report line of a run at a place, and answers its end; what does not fit writes nothing.
+// Writes the report line of a run at a place, and answers its end; what does not fit writes nothing. Output and place
+// become a page once the place is judged.
 pub fn report(
     answer: &RunAnswer,
     serials: &[u16],
     output: &mut [u8],
     place: usize,
 ) -> Result<usize, ReportFault> {
-    let escaped = match answer.fault {
-        Some(fault) => fault.cause.escape_count(),
-        None => 0,
-    };
-    if place > output.len() || serials.len() < SHORTEST_LIST || escaped > 16 {
+    let escaped = answer.fault.and_then(|fault| fault.cause.escaped());
+    if place > output.len()
+        || serials.len() < SHORTEST_LIST
+        || escaped.is_some_and(|names| names > 16)
+    {
         return Err(ReportFault::BadArgument);
     }
-    let mut nothing: [u8; 0] = [];
-    let length = put_report(&mut nothing, 0, answer, serials);
-    if output.len() - place < length {
+    let mut count = Page::new(&mut [], 0);
+    put_report(&mut count, answer, serials);
+    if output.len() - place < count.place() {
         return Err(ReportFault::ShortOutput);
     }
-    Ok(put_report(output, place, answer, serials))
+    let mut page = Page::new(output, place);
+    put_report(&mut page, answer, serials);
+    Ok(page.place())
 }

@@ -21,11 +21,11 @@ pub enum Misread {
     CutShort,
 }
 
-impl Misread {
-    pub fn refusal(self) -> Refusal
-        ensures { result ≡ refusal_of self }
-    {
-        match self {
+impl From<Misread> for Refusal {
+    ghost from_gives = { λ misread refusal. refusal ≡ refusal_of misread };
+
+    fn from(misread: Misread) -> Refusal {
+        match misread {
             Misread::UnknownKind => Refusal::UnknownKind,
             Misread::CutShort => Refusal::CutShort,
         }
