@@ -31,7 +31,7 @@ nearest_named (x ∷ around) s l i =
 under : (x : ℕ) (names around : List ℕ) → Among (without x names) around → Among names (x ∷ around)
 under x names around i s j = ⊎_elim first_at (λ n. later (i s (without_keeps s x names n j))) (cases_eq s x)
 
-belongs : (c : Code) (around : List ℕ) → length around + size c < 2 ^ 64 → Among (free c) around → Belong (named around) c (spelled around c)
+pub belongs : (c : Code) (around : List ℕ) → length around + size c < 2 ^ 64 → Among (free c) around → Belong (named around) c (spelled around c)
 belongs (Code.number n) around l i = Belong.in_number
 belongs (Code.truth b) around l i = Belong.in_truth
 belongs (Code.input j) around l i = Belong.in_input

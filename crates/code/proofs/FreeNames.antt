@@ -6,7 +6,7 @@ use Rattle.code.specs.Names.{merge, without, free, Ascending}
 use Rattle.code.specs.Exact.{StandsFree, NamesExact}
 use Rattle.code.proofs.NameLists.{in_none, in_cons, first_at, in_merge, merge_left, merge_right, in_without, without_keeps, ascending_merge, ascending_without}
 
-free_occurs : (s : ℕ) (c : Code) → In s (free c) → StandsFree s c
+pub free_occurs : (s : ℕ) (c : Code) → In s (free c) → StandsFree s c
 free_occurs s (Code.number n) h = in_none h
 free_occurs s (Code.truth b) h = in_none h
 free_occurs s (Code.input i) h = in_none h
@@ -17,7 +17,7 @@ free_occurs s (Code.apply f a) h = search (rules, in_merge, free_occurs s f, fre
 free_occurs s (Code.function x p b) h = search (rules, in_without, free_occurs s b)
 free_occurs s (Code.letin x e b) h = search (rules, in_merge, in_without, free_occurs s e, free_occurs s b)
 
-occurs_free : (s : ℕ) (c : Code) → StandsFree s c → In s (free c)
+pub occurs_free : (s : ℕ) (c : Code) → StandsFree s c → In s (free c)
 occurs_free s (Code.number n) h = absurd h
 occurs_free s (Code.truth b) h = absurd h
 occurs_free s (Code.input i) h = absurd h

@@ -1,7 +1,7 @@
 -- Free names in their places, one more above them, and lists that a loop has written in part.
-use Rattle.std.proofs.Common.{◌≡◌, ℕ, suc, ◌+◌, ◌-◌, ◌<◌, List, [], ◌∷◌, ◌++◌, length, take, drop, set, replicate, sym, ap, ◌∙◌, arith, append_assoc}
+use Rattle.std.proofs.Common.{◌≡◌, ℕ, suc, ◌+◌, ◌-◌, ◌<◌, ◌≤◌, List, [], ◌∷◌, ◌++◌, length, take, drop, set, replicate, sym, ap, ◌∙◌, arith, append_assoc, length-append}
 use Rattle.std.proofs.lemmas.Grind.{common_steps}
-use Rattle.std.proofs.lemmas.List.{length-set, take_more_set, drop-set-lt, drop_more}
+use Rattle.std.proofs.lemmas.List.{length-set, length-take-le, take_more_set, drop-set-lt, drop_more}
 use Rattle.code.specs.Names.{Ascending}
 use Rattle.code.specs.Serials.{IsLaidOut}
 
@@ -26,6 +26,27 @@ laid_more serials count s laid room above =
 -- the first of what is left is above what is written
 pub next_above : (front left rest whole : List ℕ) (x : ℕ) → front ++ left ≡ whole → left ≡ x ∷ rest → Ascending 0 whole → Ascending 0 (front ++ x ∷ [])
 next_above front left rest whole x joins next up = ascending_front 0 (front ++ x ∷ []) rest (rw (append_assoc, ← next, joins) up)
+
+-- places and a count that a loop writes, with what is left to write
+pub record Writing (serials : List ℕ) (count : ℕ) (left whole : List ℕ) : Type 0 where
+  pub laid : IsLaidOut serials count
+  pub joins : take count serials ++ left ≡ whole
+
+-- where more is left there is room
+pub writing_room : (serials : List ℕ) (count x : ℕ) (left rest whole : List ℕ) → Writing serials count left whole → left ≡ x ∷ rest → length whole ≤ 16 → count < 16
+writing_room serials count x left rest whole w next few =
+    let written = length-take-le count serials (omega (arith, w.laid.sixteen, w.laid.few)) in
+    omega (arith, length-append {A = ℕ}, written, ap length w.joins, ap length next)
+
+-- the first of what is left is written
+pub writing_more : (serials : List ℕ) (count x : ℕ) (left rest whole : List ℕ) → Writing serials count left whole → left ≡ x ∷ rest → length whole ≤ 16 → Ascending 0 whole → Writing (set serials count x) (count + 1) rest whole
+writing_more serials count x left rest whole w next few up =
+    let room = writing_room serials count x left rest whole w next few in
+    let lt : count < length serials = omega (arith, w.laid.sixteen, room) in
+    record {
+      laid = laid_more serials count x w.laid room (next_above (take count serials) left rest whole x w.joins next up);
+      joins = rw (take_more_set serials count x lt, append_assoc, ← next) w.joins;
+    }
 
 -- the names are as many as are counted
 pub counted : (serials : List ℕ) (count : ℕ) (names : List ℕ) → IsLaidOut serials count → take count serials ≡ names → length names ≡ count

@@ -63,3 +63,7 @@ module _ {a b xs ys : List ℕ} {x y : ℕ} (ea : a ≡ x ∷ xs) (eb : b ≡ y 
 -- a name that stays
 pub step_stays : (s : ℕ) (xs : List ℕ) (i : ℕ) → i < length xs → (get_or xs i 0 ≡ s → ⊥) → without s (drop i xs) ≡ get_or xs i 0 ∷ without s (drop (i + 1) xs)
 step_stays s xs i lt other = rw (drop_more xs i 0 lt) (grind (arith, nat_tests))
+
+-- the name that goes
+pub step_goes : (s : ℕ) (xs : List ℕ) (i : ℕ) → i < length xs → get_or xs i 0 ≡ s → without s (drop i xs) ≡ without s (drop (i + 1) xs)
+step_goes s xs i lt same = rw (drop_more xs i 0 lt) (grind (arith, nat_tests))

@@ -17,15 +17,15 @@ module _ {A : Type 0} where
   first_at {x} {y} {ys} e = subst (λ (z : A). In x (z ∷ ys)) e first
 
 -- what is in a list with a name added
-in_insert : (s x : ℕ) (ys : List ℕ) → In s (insert x ys) → (s ≡ x) ⊎ In s ys
+pub in_insert : (s x : ℕ) (ys : List ℕ) → In s (insert x ys) → (s ≡ x) ⊎ In s ys
 in_insert s x [] h = in_cons h
 in_insert s x (y ∷ ys) h = search (rules, nat_tests, in_cons, in_insert s x ys, first, later)
 
-insert_here : (x : ℕ) (ys : List ℕ) → In x (insert x ys)
+pub insert_here : (x : ℕ) (ys : List ℕ) → In x (insert x ys)
 insert_here x [] = first
 insert_here x (y ∷ ys) = search (rules, nat_tests, insert_here x ys, first, later, first_at)
 
-insert_keeps : (s x : ℕ) (ys : List ℕ) → In s ys → In s (insert x ys)
+pub insert_keeps : (s x : ℕ) (ys : List ℕ) → In s ys → In s (insert x ys)
 insert_keeps s x [] h = absurd (in_none h)
 insert_keeps s x (y ∷ ys) h = search (rules, nat_tests, in_cons, insert_keeps s x ys, first_at, later)
 
@@ -56,7 +56,7 @@ pub ascending_lower : (m n : ℕ) (xs : List ℕ) → m ≤ n → Ascending n xs
 ascending_lower m n [] l a = tt
 ascending_lower m n (x ∷ xs) l a = (omega (arith, a.0), a.1)
 
-ascending_insert : (n x : ℕ) (ys : List ℕ) → n ≤ x → Ascending n ys → Ascending n (insert x ys)
+pub ascending_insert : (n x : ℕ) (ys : List ℕ) → n ≤ x → Ascending n ys → Ascending n (insert x ys)
 ascending_insert n x [] l a = (l, tt)
 ascending_insert n x (y ∷ ys) l a = grind (arith, nat_tests, a, ascending_insert (suc y) x ys)
 

@@ -16,11 +16,11 @@ use Rattle.code.specs.Exact
 use Rattle.code.proofs.NameLists.{in_none, in_cons, in_merge, merge_left, merge_right, in_without, without_keeps}
 
 -- the type that a scope tells of a name is that of the nearest binder
-nearest_told : {s : ℕ} {t : Ty} {g : Scope} → Nearest s t g → type_in g s ≡ Some t
+pub nearest_told : {s : ℕ} {t : Ty} {g : Scope} → Nearest s t g → type_in g s ≡ Some t
 nearest_told {s = s} here = grind (arith, nat_tests)
 nearest_told {s = s} (past n h) = grind (arith, nat_tests, n, nearest_told h)
 
-told_nearest : (g : Scope) (s : ℕ) (t : Ty) → type_in g s ≡ Some t → Nearest s t g
+pub told_nearest : (g : Scope) (s : ℕ) (t : Ty) → type_in g s ≡ Some t → Nearest s t g
 told_nearest [] s t e = absurd cc
 told_nearest (b ∷ g) s t e = search (rules, nat_tests, here, past, told_nearest g s t)
 
@@ -114,7 +114,7 @@ past_binder : (s x : ℕ) (t : Ty) (g : Scope) → (s ≡ x → ⊥) → (u : Ty
 past_binder s x t g n (u, here) = absurd (n refl)
 past_binder s x t g n (u, past m h) = (u, h)
 
-in_scope : {g : Scope} {c : Code} {t : Ty} → HasType g c t → (s : ℕ) → In s (free c) → (u : Ty) × Nearest s u g
+pub in_scope : {g : Scope} {c : Code} {t : Ty} → HasType g c t → (s : ℕ) → In s (free c) → (u : Ty) × Nearest s u g
 in_scope Exact.number s i = absurd (in_none i)
 in_scope Exact.truth s i = absurd (in_none i)
 in_scope Exact.input s i = absurd (in_none i)

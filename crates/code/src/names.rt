@@ -95,17 +95,20 @@ impl Names {
         merged
     }
 
-    // The names but one.
+    // The names but one. Places and count are kept apart until all are written: in a `Names` each count would be waited
+    // for before the next.
     pub fn without(&self, serial: u16) -> Names
         ensures { result ≡ without serial self.now }
     {
-        let mut kept = Names::none();
+        let mut serials = [0; 16];
+        let mut count = 0;
         for name in self.as_slice() {
             if *name != serial {
-                kept.push(*name);
+                serials[count] = *name;
+                count += 1;
             }
         }
-        kept
+        Names { serials, count }
     }
 }
 
