@@ -67,10 +67,10 @@ finishable_open st x g f s i =
     (free_around x.code s (subst (In s) g.named i) f.0 [] holds.binders holds.these)
 
 -- a code under open binders that bind all its free names
-record Fits (bs : List Binder) (c : Code) (t : Ty) : Type 0 where
-  typed : type_of (scope bs) c ≡ Some t
-  all_open : AllOpen bs (free c)
-  in_range : ranged c ≡ true
+pub record Fits (bs : List Binder) (c : Code) (t : Ty) : Type 0 where
+  pub typed : type_of (scope bs) c ≡ Some t
+  pub all_open : AllOpen bs (free c)
+  pub in_range : ranged c ≡ true
 
 -- a code of each type with no names
 abbrev pub literal : Base → Code

@@ -20,7 +20,7 @@ use Rattle.model.proofs.Sound.{Sound, grown_sound}
 use Rattle.model.proofs.Contexts.{finishable_open, open_holds}
 
 -- a result that is no refusal as escaped
-abbrev NoEscape : {A : Type 0} → Result A Fault → Type 0
+abbrev pub NoEscape : {A : Type 0} → Result A Fault → Type 0
 NoEscape (Ok x) = Unit {0}
 NoEscape (Err f) = escape_cell f ≡ None
 

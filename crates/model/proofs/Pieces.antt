@@ -36,7 +36,7 @@ abbrev pub Opens : List Binder → ℕ → Type 0
 Opens [] next = Unit {0}
 Opens (b ∷ bs) next = (serial b < next) × (Bound b bs × Opens bs (serial b))
 
-open_below : (bs : List Binder) (next s : ℕ) → Opens bs next → is_open bs s ≡ true → s < next
+pub open_below : (bs : List Binder) (next s : ℕ) → Opens bs next → is_open bs s ≡ true → s < next
 open_below [] next s o h = absurd cc
 open_below (b ∷ bs) next s o h = grind (arith, nat_tests, o.0, open_below bs (serial b) s o.1.1)
 
@@ -53,7 +53,7 @@ pub names_ascending : (bs : List Binder) (n : ℕ) (x : Piece) → Good bs n x �
 names_ascending bs n x g = subst (Ascending 0) (sym g.named) (free_ascending x.code)
 
 -- a name that is not free in a code has no part in its type
-weaken : (c : Code) (g : Scope) (x : ℕ) (t : Ty) → (In x (free c) → ⊥) → type_of ((x, t) ∷ g) c ≡ type_of g c
+pub weaken : (c : Code) (g : Scope) (x : ℕ) (t : Ty) → (In x (free c) → ⊥) → type_of ((x, t) ∷ g) c ≡ type_of g c
 weaken c g x t new = same_types c ((x, t) ∷ g) g (λ s i. grind (arith, nat_tests, new))
 
 -- a binder with a new serial leaves a good piece good
