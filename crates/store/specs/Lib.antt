@@ -8,6 +8,8 @@ pub mod RowsLaw
 pub mod Ledger
 pub mod LedgerLaw
 pub mod Moment
+pub mod Kept
+pub mod Inside
 pub mod Memory
 pub mod MemoryLaw
 pub mod Sharing

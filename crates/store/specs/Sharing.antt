@@ -4,7 +4,7 @@ use Rattle.code.specs.declared.construct.Handle.{Handle}
 use Rattle.code.specs.declared.construct.Construct.{Construct}
 use Rattle.code.specs.Code.{Code}
 use Rattle.store.specs.declared.meaning.StoreFault.{StoreFault}
-use Rattle.store.specs.declared.memory.Memory.{Memory}
+use Rattle.store.specs.Kept.{Kept}
 use Rattle.store.specs.declared.sharing.Sharing.{Sharing}
 use Rattle.store.specs.declared.meaning.Store.{Ghosts}
 use Rattle.store.specs.Moment.{Moment}
@@ -22,13 +22,13 @@ pub record LikeBelow (given layer : Moment) : Type 0 where
   pub prices : (c : Code) → layer.prices c ≡ given.prices c
 
 -- some entry has the request
-pub record Holds (m : Memory) (x : Construct) : Type 0 where
+pub record Holds (m : Kept) (x : Construct) : Type 0 where
   pub place : ℕ
   pub within : place < count m
   pub same : (entry m place).request ≡ x
 
 -- a request that was granted below is noted, one that was refused is not
-abbrev pub Learnt : Memory → Construct → Result Handle StoreFault → Memory → Type 0
+abbrev pub Learnt : Kept → Construct → Result Handle StoreFault → Kept → Type 0
 Learnt m x (Ok h) n = Noted m x h n
 Learnt m x (Err f) n = n ≡ m
 

@@ -28,9 +28,9 @@ pub const SERIALS: u16 = 4096;
 pub struct Ledger<'a> {
     rows: &'a mut [Row],
     used: usize,
-    ghost within: { used ≤ length rows.now },
-    ghost few: { used ≤ 65536 },
-    ghost sound: { Sound (take used rows.now) } by { sound_prop (take used rows.now) },
+    pub ghost within: { used ≤ length rows.now },
+    pub ghost few: { used ≤ 65536 },
+    pub ghost sound: { Sound (take used rows.now) } by { sound_prop (take used rows.now) },
 }
 
 impl<'a> Ledger<'a> {

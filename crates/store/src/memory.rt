@@ -1,10 +1,9 @@
 // The last requests that were granted, in a plain table.
-ghost use Rattle.std.specs.Prelude.{◌≡◌, ◌<◌, ◌≤◌};
-ghost use Rattle.arrayvec.specs.ArrayVec.{array_vec_len};
+ghost use Rattle.std.specs.Prelude.{◌≡◌};
 
 use crate::search::{Sameness, find};
-use arrayvec::ArrayVec;
 use code::construct::{Construct, Handle};
+use std::marker::Model;
 
 // How many requests are remembered.
 const MOST: usize = 64;
@@ -47,14 +46,28 @@ impl Sameness for Remembered {
     }
 }
 
-// The last 64 requests; the place `next` is written next, over the oldest entry once the table is full.
-#[derive(Drop)]
+// The last 64 requests: the first `count` entries; the place `next` is written next, over the oldest entry once the
+// table is full. An array with its count, and no `ArrayVec`: a memory is copied, as that never is. What its places keep
+// is the invariant of a model that holds the same three fields, since a loan in the store below leaves a struct that
+// is copied no ghost field.
+#[derive(Clone, Copy)]
 pub struct Memory {
-    pub entries: ArrayVec<Remembered, MOST>,
+    pub entries: [Remembered; MOST],
+    pub count: usize,
     pub next: usize,
-    pub ghost few: { array_vec_len entries ≤ 64 },
-    pub ghost within: { next < 64 },
-    pub ghost filling: { array_vec_len entries < 64 → next ≡ array_vec_len entries },
+}
+
+impl Model for Memory {
+    ghost use Rattle.store.specs.Kept.{Kept, InOrder};
+    ghost use Rattle.store.specs.Inside.{kept_of, memory_of};
+
+    ghost Value = { Kept };
+
+    ghost view = { kept_of };
+
+    ghost invariant = { λ memory. InOrder (kept_of memory) };
+
+    ghost inverse = { memory_of };
 }
 
 impl Memory {
@@ -65,7 +78,8 @@ impl Memory {
         ensures { EmptyMemory result }
     {
         Memory {
-            entries: ArrayVec::new(),
+            entries: [Remembered::default(); MOST],
+            count: 0,
             next: 0,
         }
     }
@@ -78,7 +92,7 @@ impl Memory {
             request,
             ..Remembered::default()
         };
-        let place = find(&self.entries, &wanted)?;
+        let place = find(&self.entries[..self.count], &wanted)?;
         Some(self.entries[place].handle)
     }
 
@@ -86,12 +100,8 @@ impl Memory {
     pub(crate) fn note(&mut self, request: Construct, handle: Handle)
         ensures { Noted self.old request handle self.new }
     {
-        let remembered = Remembered { request, handle };
-        if self.entries.is_full() {
-            self.entries[self.next] = remembered;
-        } else {
-            self.entries.push(remembered);
-        }
+        self.entries[self.next] = Remembered { request, handle };
         self.next = (self.next + 1) % MOST;
+        self.count = (self.count + 1).min(MOST);
     }
 }

@@ -12,7 +12,7 @@ use code::construct::{Construct, Handle};
 pub struct Sharing<S: Store> {
     below: S,
     memory: Memory,
-    ghost remembers: { Remembers (S.Store.code below) memory } by { remembers_prop (S.Store.code below) memory },
+    pub ghost remembers: { Remembers (S.Store.code below) memory } by { remembers_prop (S.Store.code below) memory },
 }
 
 impl<S: Store> Sharing<S> {
