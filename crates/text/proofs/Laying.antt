@@ -65,7 +65,7 @@ pub listed_more : (serials : List ℕ) (i : ℕ) → i < length serials → list
 listed_more serials i lt = flat_map_more after_blank [] (take i serials) (get_or serials i 0) ∙ ap listed (sym (take_more serials i 0 lt))
 
 -- what a copy of the front that fits leaves
-copied : (out : List ℕ) (at k : ℕ) (text : List ℕ) → at ≤ length out → k ≡ min (length text) (length out - at) → put_mid at k out (take k text) ≡ overlaid out at text
+pub copied : (out : List ℕ) (at k : ℕ) (text : List ℕ) → at ≤ length out → k ≡ min (length text) (length out - at) → put_mid at k out (take k text) ≡ overlaid out at text
 unfolding overlaid
 copied out at k text within fits =
     ap (λ (l : List ℕ). take at out ++ (take k text ++ l)) (drop-drop k at out) ∙
@@ -85,6 +85,10 @@ laid_copy {out} {text} {part} {at} {start} {fits} {r} slice starts fit front end
   ends = ends;
   slice = slice;
 }
+
+-- past the output nothing is laid, and the place moves on
+pub laid_past : {out text : List ℕ} {at r : ℕ} → length out ≤ 2 ^ 64 - 1 → length out ≤ at → r ≡ min (at + length text) (2 ^ 64 - 1) → Laid out at text out r
+laid_past {out} {text} {at} {r} slice past ends = record { bytes = sym (overlaid_past out at text past); ends = ends; slice = slice }
 
 -- nothing laid
 pub writes_none : {p : Page} → p.place ≤ 2 ^ 64 - 1 → length p.out.now ≤ 2 ^ 64 - 1 → Writes p [] p

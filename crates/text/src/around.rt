@@ -3,12 +3,14 @@ ghost use Rattle.std.specs.Prelude.{◌≡◌, ◌+◌, ◌^◌, ◌<◌, [], �
 ghost use Rattle.code.specs.Text.{number_of};
 ghost use Rattle.text.specs.Around.{serials};
 
-// The nearest binder's serial, and the binders around that one. A list on the stack, and no `Vec`: nothing
-// allocates. It is no `Option` of a pair, since a type can't stand for its own pair.
+use crate::block::Block;
+
+// The nearest block, and the binders around that one. A list on the stack, and no `Vec`: nothing allocates. It is
+// no `Option` of a pair, since a type can't stand for its own pair.
 #[derive(Drop)]
 pub(crate) enum Binders<'a> {
     Nothing,
-    Nearest(u16, &'a Binders<'a>),
+    Nearest(Block, &'a Binders<'a>),
 }
 
 // The binders, and how many they are.
@@ -35,7 +37,7 @@ impl Around<'_> {
         ensures { serials result.binders ≡ serial ∷ serials self.now.binders }
     {
         Around {
-            binders: Binders::Nearest(serial, &self.binders),
+            binders: self.binders.body(serial),
             level: self.level + 1,
         }
     }
@@ -56,14 +58,27 @@ impl Around<'_> {
 }
 
 impl Binders<'_> {
+    // In the nearest block where it has room, and else in a block more.
+    fn body(&self, serial: u16) -> Binders<'_>
+        ensures { serials result ≡ serial ∷ serials self.now }
+    {
+        let (block, outer) = match self {
+            Binders::Nearest(block, outer) if block.has_room() => (*block, *outer),
+            _ => (Block::nothing(), self),
+        };
+        Binders::Nearest(block.body(serial), outer)
+    }
+
     fn level_of(&self, serial: u16, level: usize) -> usize
         requires { level ≡ length (serials self.now) }
         ensures { result ≡ number_of (serials self.now) serial }
     {
         match self {
             Binders::Nothing => 0,
-            Binders::Nearest(nearest, _) if *nearest == serial => level - 1,
-            Binders::Nearest(_, outer) => outer.level_of(serial, level - 1),
+            Binders::Nearest(block, outer) => match block.position(serial) {
+                Some(nearer) => level - 1 - nearer,
+                None => outer.level_of(serial, level - block.serials().len()),
+            },
         }
     }
 }

@@ -2,6 +2,7 @@
 #![tactic(auto)]
 
 mod around;
+mod block;
 pub mod page;
 pub mod printer;
 mod spelling;

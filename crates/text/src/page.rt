@@ -31,13 +31,24 @@ impl<'a> Page<'a> {
     pub fn put(&mut self, text: &[u8])
         ensures { Writes self.old text.now self.new }
     {
-        let start = self.place.min(self.out.len());
-        let fits = text.len().min(self.out.len() - start);
-        self.out[start..start + fits].copy_from_slice(&text[..fits]);
+        let start = self.place;
         self.place = self.place.saturating_add(text.len());
+        // past the output only the place moves: a text is mostly counted first, over an output of no bytes
+        if start >= self.out.len() {
+            return;
+        }
+        let room = self.out.len() - start;
+        // a text that fits is copied whole: its length is mostly known where it is put, and the room never is
+        if text.len() <= room {
+            self.out[start..start + text.len()].copy_from_slice(text);
+            return;
+        }
+        self.out[start..].copy_from_slice(&text[..room]);
     }
 
-    // The digits of a number, after a minus sign where it is negative.
+    // The digits of a number, after a minus sign where it is negative. Not inlined, since its buffer would stand in
+    // each frame of `put_code_in`.
+    #[inline(never)]
     pub fn put_number<I: Integer>(&mut self, number: I)
         ensures { Writes self.old (I.text number) self.new }
     {

@@ -1,5 +1,5 @@
 // The printer: one pass over the code by `look`, the same to count its text and to write it.
-ghost use Rattle.std.specs.Prelude.{[]};
+ghost use Rattle.std.specs.Prelude.{[], ◌∷◌};
 ghost use Rattle.text.specs.Page.{Writes};
 ghost use Rattle.text.specs.Around.{serials};
 ghost use Rattle.text.specs.Printing.{text_of, Countable};
@@ -18,6 +18,7 @@ impl Page<'_> {
     }
 
     // Lays the text of the handle's code, which stands in the bodies of the binders around.
+    #[cycle(put_code_in)]
     fn put_code_in<S: Store>(&mut self, store: &S, handle: Handle, around: &Around)
         requires { Countable (serials around.now.binders) (S.Store.code store.now handle) }
         ensures { Writes self.old (text_of (serials around.now.binders) (S.Store.code store.now handle)) self.new }
@@ -56,16 +57,26 @@ impl Page<'_> {
             }
             Construct::Function(serial, parameter, body) => {
                 self.put_fun_head(around.level(), parameter);
-                self.put_code_in(store, body, &around.body(serial));
+                self.put_body(store, body, around, serial);
                 self.put(b")");
             }
             Construct::Let(serial, bound, body) => {
                 self.put_let_head(around.level());
                 self.put_code_in(store, bound, around);
                 self.put(b" in ");
-                self.put_code_in(store, body, &around.body(serial));
+                self.put_body(store, body, around, serial);
                 self.put(b")");
             }
         }
+    }
+    // Lays the text of a binder's body. A function of its own, and not inlined, since the binders around the body
+    // would take room in each frame of `put_code_in`, whatever its construct.
+    #[inline(never)]
+    #[cycle(put_code_in)]
+    fn put_body<S: Store>(&mut self, store: &S, body: Handle, around: &Around, serial: u16)
+        requires { Countable (serial ∷ serials around.now.binders) (S.Store.code store.now body) }
+        ensures { Writes self.old (text_of (serial ∷ serials around.now.binders) (S.Store.code store.now body)) self.new }
+    {
+        self.put_code_in(store, body, &around.body(serial));
     }
 }
