@@ -1,8 +1,7 @@
 -- The open binders and marks of a table, the latest first.
 use Rattle.std.proofs.Common.{◌≡◌, ℕ, ◌+◌, ◌-◌, ◌<◌, Bool, true, false, leb, List, [], ◌∷◌, ◌++◌, map, reverse, length, slice_get, take, All, Some, sym, refl, ap, ◌∙◌, subst, arith}
-use Rattle.std.proofs.lemmas.List.{length-map, length-reverse, map_push, reverse-append, take_all, take_more}
+use Rattle.std.proofs.lemmas.List.{length-map, length-reverse, length-take-le, map_push, reverse-append, take_all, take_more}
 use Rattle.std.proofs.lemmas.Option.{get_or_from_slice_get, slice_get_within}
-use Rattle.arrayvec.specs.ArrayVec.{array_vec_len}
 use Rattle.store.specs.Meaning.{Codes}
 use Rattle.generator.specs.declared.binder.Binder.{Binder as Opened}
 use Rattle.generator.specs.declared.table.Table.{Table}
@@ -16,8 +15,11 @@ use Rattle.generator.specs.Latest.{one_of, latest_in, latest_of}
 pub latest_first : {A B : Type 0} (f : A → B) (xs : List A) (x : A) → reverse (map f (xs ++ (x ∷ []))) ≡ f x ∷ reverse (map f xs)
 latest_first f xs x = ap reverse (map_push f xs x) ∙ reverse-append (map f xs) (f x ∷ [])
 
-pub length_binders : (code : Codes) (t : Table) → length (read_binders code t) ≡ array_vec_len t.binders
-length_binders code t = length-reverse (map (read_binder code) t.binders.items) ∙ length-map t.binders.items (read_binder code)
+length_open : (t : Table) → length (take t.depth t.binders) ≡ t.depth
+length_open t = length-take-le t.depth t.binders t.within
+
+pub length_binders : (code : Codes) (t : Table) → length (read_binders code t) ≡ t.depth
+length_binders code t = length-reverse (map (read_binder code) (take t.depth t.binders)) ∙ length-map (take t.depth t.binders) (read_binder code) ∙ length_open t
 
 -- all but the last, and the last
 last_apart : {A : Type 0} (xs : List A) (x : A) → slice_get xs (length xs - 1) ≡ Some x → xs ≡ take (length xs - 1) xs ++ (x ∷ [])
@@ -26,9 +28,13 @@ last_apart xs x e =
     sym (take_all (length xs - 1 + 1) xs (omega arith)) ∙ take_more xs (length xs - 1) x some ∙ ap (λ y. take (length xs - 1) xs ++ (y ∷ [])) (get_or_from_slice_get xs (length xs - 1) x x e)
 
 -- the binders of a table with one open at least
-pub table_latest : (code : Codes) (t : Table) (b : Opened) → slice_get t.binders.items (array_vec_len t.binders - 1) ≡ Some b
-    → read_binders code t ≡ read_binder code b ∷ reverse (map (read_binder code) (take (array_vec_len t.binders - 1) t.binders.items))
-table_latest code t b e = ap (λ l. reverse (map (read_binder code) l)) (last_apart t.binders.items b e) ∙ latest_first (read_binder code) (take (array_vec_len t.binders - 1) t.binders.items) b
+pub table_latest : (code : Codes) (t : Table) (b : Opened) → slice_get (take t.depth t.binders) (t.depth - 1) ≡ Some b
+    → read_binders code t ≡ read_binder code b ∷ reverse (map (read_binder code) (take (t.depth - 1) (take t.depth t.binders)))
+table_latest code t b e =
+    let bs = take t.depth t.binders in
+    let last : slice_get bs (length bs - 1) ≡ Some b = subst (λ (n : ℕ). slice_get bs (n - 1) ≡ Some b) (sym (length_open t)) e in
+    let apart : bs ≡ take (t.depth - 1) bs ++ (b ∷ []) = last_apart bs b last ∙ ap (λ (n : ℕ). take (n - 1) bs ++ (b ∷ [])) (length_open t) in
+    ap (λ l. reverse (map (read_binder code) l)) apart ∙ latest_first (read_binder code) (take (t.depth - 1) bs) b
 
 -- the latest mark
 pub marks_latest : (ms : List ℕ) (m : ℕ) → slice_get ms (length ms - 1) ≡ Some m → reverse ms ≡ m ∷ reverse (take (length ms - 1) ms)

@@ -1,6 +1,5 @@
 -- The latest open binder, where it was opened since the latest mark.
-use Rattle.std.specs.Prelude.{◌≡◌, ℕ, ◌-◌, Bool, List, [], ◌∷◌, length, Some, Ok, Err, Result, nat_le, slice_get}
-use Rattle.arrayvec.specs.ArrayVec.{array_vec_len}
+use Rattle.std.specs.Prelude.{◌≡◌, ℕ, ◌-◌, Bool, List, [], ◌∷◌, length, take, Some, Ok, Err, Result, nat_le, slice_get}
 use Rattle.store.specs.Meaning.{Codes}
 use Rattle.generator.specs.declared.binder.Binder.{Binder as Opened}
 use Rattle.generator.specs.declared.fault.GeneratorFault.{GeneratorFault}
@@ -23,7 +22,7 @@ latest_of st = latest_in st.marks st.open_binders
 
 -- the table's latest binder is the definition's
 pub record LatestIs (t : Table) (b : Opened) : Type 0 where
-  pub last : slice_get t.binders.items (array_vec_len t.binders - 1) ≡ Some b
+  pub last : slice_get (take t.depth t.binders) (t.depth - 1) ≡ Some b
   pub found : (code : Codes) → latest_of (read code t) ≡ Ok (read_binder code b, but_latest (read_binders code t))
 
 abbrev pub Latest : Table → Result Opened GeneratorFault → Type 0

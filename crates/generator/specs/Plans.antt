@@ -1,6 +1,5 @@
 -- When a table has room for what a plan does to its binders.
 use Rattle.std.specs.Prelude.{◌≡◌, ◌<◌, Ok, Err, Result}
-use Rattle.arrayvec.specs.ArrayVec.{array_vec_len}
 use Rattle.generator.specs.declared.binder.Binder.{Binder}
 use Rattle.generator.specs.declared.fault.GeneratorFault.{GeneratorFault}
 use Rattle.generator.specs.declared.plan.Plan.{Plan}
@@ -10,8 +9,8 @@ use Rattle.generator.specs.declared.table.Table.{Table}
 
 abbrev pub RoomFor : Table → Scope → Type 0
 RoomFor t Kept = Unit {0}
-RoomFor t (Opened b) = (array_vec_len t.binders < 16) × (t.next < 4096)
-RoomFor t Closed = 0 < array_vec_len t.binders
+RoomFor t (Opened b) = (t.depth < 16) × (t.next < 4096)
+RoomFor t Closed = 0 < t.depth
 
 abbrev pub Ready : Table → Result Plan GeneratorFault → Type 0
 Ready t (Ok p) = RoomFor t p.scope
@@ -24,7 +23,7 @@ Closing (Err f) = Unit {0}
 
 -- a binder is found only where one is open
 abbrev pub SomeOpen : Table → Result Binder GeneratorFault → Type 0
-SomeOpen t (Ok b) = 0 < array_vec_len t.binders
+SomeOpen t (Ok b) = 0 < t.depth
 SomeOpen t (Err f) = Unit {0}
 
 -- a plan that leaves the binders as they are

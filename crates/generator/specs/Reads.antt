@@ -1,5 +1,5 @@
 -- A generator read through its store: each handle as the code that it stands for.
-use Rattle.std.specs.Prelude.{ℕ, List, map, reverse, pos, Some, None, Ok, Err, Option, Result, option_map}
+use Rattle.std.specs.Prelude.{ℕ, List, map, reverse, take, pos, Some, None, Ok, Err, Option, Result, option_map}
 use Rattle.code.specs.Code.{Code}
 use Rattle.store.specs.Meaning.{Codes}
 use Rattle.store.specs.declared.meaning.StoreFault.{StoreFault}
@@ -34,10 +34,10 @@ read_binder code b = read_binding code b.serial b.binding
 
 -- the table keeps binders and marks in order of opening, the state has the latest first
 abbrev pub read_binders : Codes → Table → List Binder
-read_binders code t = reverse (map (read_binder code) t.binders.items)
+read_binders code t = reverse (map (read_binder code) (take t.depth t.binders))
 
 abbrev pub read_marks : Table → List ℕ
-read_marks t = reverse t.marks.items
+read_marks t = reverse (take t.marked t.marks)
 
 abbrev pub read : Codes → Table → State
 read code t =

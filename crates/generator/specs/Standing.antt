@@ -1,5 +1,5 @@
 -- When a generator stands: calls led to it from a fresh one, and each handle that it holds is known to its store.
-use Rattle.std.specs.Prelude.{◌≡◌, Some, All, IfSome}
+use Rattle.std.specs.Prelude.{◌≡◌, take, Some, All, IfSome}
 use Rattle.code.specs.declared.construct.Handle.{Handle}
 use Rattle.code.specs.Code.{Code}
 use Rattle.store.specs.Meaning.{Codes}
@@ -28,7 +28,7 @@ BinderKnown code b = BindingKnown code b.binding
 -- the handles of full cells and of open lets are known
 pub record Known (code : Codes) (t : Table) : Type 0 where
   pub cells : All (CellKnown code) t.cells
-  pub bounds : All (BinderKnown code) t.binders.items
+  pub bounds : All (BinderKnown code) (take t.depth t.binders)
 
 -- sizes, names and types are then exact, as they are in every state that calls lead to
 pub record Stands (code : Codes) (t : Table) : Type 0 where

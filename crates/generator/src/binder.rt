@@ -22,7 +22,7 @@ pub struct Binder {
     pub binding: Binding,
 }
 
-// An `ArrayVec` fills its unused places with it.
+// What fills a place before its first use.
 impl Default for Binder {
     ghost use Rattle.generator.specs.Blanks.{blank_binder};
 

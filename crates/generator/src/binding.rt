@@ -9,7 +9,7 @@ use crate::fault::GeneratorFault;
 use crate::plan::{Plan, Scope};
 use crate::planning::{judge_size, judge_type};
 use crate::slot::Slot;
-use crate::table::Table;
+use crate::table::{MOST_BINDERS, Table};
 use code::construct::Construct;
 use code::names::Names;
 use code::types::{Base, Ty};
@@ -20,7 +20,7 @@ impl Table {
     fn plan_open(&self, to: Slot, binding: Binding) -> Result<Plan, GeneratorFault>
         ensures { Ready self.now result }
     {
-        if self.binders.is_full() {
+        if self.depth >= MOST_BINDERS {
             return Err(GeneratorFault::TooDeep);
         }
         if self.next >= SERIALS {
@@ -56,16 +56,16 @@ impl Table {
 
     // The number of binders that were open at the latest mark.
     pub(crate) fn floor(&self) -> usize {
-        self.marks.last().copied().unwrap_or(0)
+        self.set_marks().last().copied().unwrap_or(0)
     }
 
     // The latest binder, where it was opened since the latest mark.
     pub(crate) fn latest(&self) -> Result<Binder, GeneratorFault>
         ensures { SomeOpen self.now result }
     {
-        let latest = self.binders.last().copied();
+        let latest = self.open_binders().last().copied();
         latest
-            .filter(|_| self.floor() < self.binders.len())
+            .filter(|_| self.floor() < self.depth)
             .ok_or(GeneratorFault::NoBinder)
     }
 

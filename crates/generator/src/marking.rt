@@ -7,7 +7,7 @@ use crate::cell::Piece;
 use crate::fault::GeneratorFault;
 use crate::plan::{Plan, Scope};
 use crate::slot::Slot;
-use crate::table::Table;
+use crate::table::{MOST_MARKS, Table};
 use code::construct::Handle;
 
 impl Table {
@@ -19,15 +19,14 @@ impl Table {
         match plan.scope {
             Scope::Kept => {}
             Scope::Opened(binding) => {
-                self.binders.push(Binder {
+                self.binders[self.depth] = Binder {
                     serial: self.next,
                     binding,
-                });
+                };
+                self.depth += 1;
                 self.next += 1;
             }
-            Scope::Closed => {
-                self.binders.pop();
-            }
+            Scope::Closed => self.depth -= 1,
         }
         let piece = Piece {
             handle,
@@ -52,24 +51,27 @@ impl Table {
     }
 
     pub(crate) fn mark(&mut self) -> Result<(), GeneratorFault> {
-        let open = self.binders.len();
-        self.marks
-            .try_push(open)
-            .map_err(|_| GeneratorFault::TooDeep)
+        if self.marked >= MOST_MARKS {
+            return Err(GeneratorFault::TooDeep);
+        }
+        self.marks[self.marked] = self.depth;
+        self.marked += 1;
+        Ok(())
     }
 
     pub(crate) fn finish(&mut self) -> Result<(), GeneratorFault> {
-        let mark = *self.marks.last().ok_or(GeneratorFault::NoMark)?;
-        if self.binders.len() > mark {
+        let mark = *self.set_marks().last().ok_or(GeneratorFault::NoMark)?;
+        if self.depth > mark {
             return Err(GeneratorFault::StillOpen);
         }
-        self.marks.pop();
+        self.marked -= 1;
         Ok(())
     }
 
     pub(crate) fn leave(&mut self) -> Result<(), GeneratorFault> {
-        let mark = self.marks.pop().ok_or(GeneratorFault::NoMark)?;
-        self.binders.truncate(mark);
+        let mark = *self.set_marks().last().ok_or(GeneratorFault::NoMark)?;
+        self.marked -= 1;
+        self.depth = self.depth.min(mark);
         Ok(())
     }
 }

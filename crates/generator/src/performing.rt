@@ -62,15 +62,16 @@ impl<S: Store> Generator<S> {
         let Ok(piece) = self.table.read(cell) else {
             return 0;
         };
-        // Places one by one: a `zip` with the names that pass a filter was tried, and is not proved.
-        let mut places = list.iter_mut();
+        // Counted as they are written, which is what is answered: each name is looked for once.
+        let mut count = 0;
         for serial in piece.names.as_slice() {
             if !self.table.is_open(*serial)
-                && let Some(place) = places.next()
+                && let Some(place) = list.get_mut(count)
             {
                 *place = *serial;
+                count += 1;
             }
         }
-        usize::from(self.table.escaping(&piece.names)).min(list.len())
+        count
     }
 }

@@ -42,7 +42,7 @@ impl Table {
             serial,
             ..Binder::default()
         };
-        find(&self.binders, &wanted).is_some()
+        find(self.open_binders(), &wanted).is_some()
     }
 
     // How many of the names are not open.
