@@ -57,6 +57,8 @@ impl Iterator for Calls<'_> {
 
     ghost remaining = { λ s. at_most (length s.cursor.script.now - s.cursor.place) };
 
+    // Inlined: a call that goes through memory, byte by byte, is waited for when it is read as a whole.
+    #[inline(always)]
     fn next(&mut self) -> Option<Result<(usize, Call), RunFault>> {
         if self.cursor.is_done() {
             return None;
