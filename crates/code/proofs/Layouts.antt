@@ -1,9 +1,13 @@
 -- Free names in their places, one more above them, and lists that a loop has written in part.
-use Rattle.std.proofs.Common.{◌≡◌, ℕ, suc, ◌+◌, ◌-◌, ◌<◌, ◌≤◌, List, [], ◌∷◌, ◌++◌, length, take, drop, set, replicate, sym, ap, ◌∙◌, arith, append_assoc, length-append}
+use Rattle.std.proofs.Common.{◌≡◌, ℕ, suc, ◌+◌, ◌-◌, ◌<◌, ◌≤◌, List, [], ◌∷◌, ◌++◌, length, take, drop, set, replicate, sym, refl, ap, ◌∙◌, arith, append_assoc, length-append}
 use Rattle.std.proofs.lemmas.Grind.{common_steps}
-use Rattle.std.proofs.lemmas.List.{length-set, length-take-le, take_more_set, drop-set-lt, drop_more}
+use Rattle.std.proofs.lemmas.List.{length-set, length-take-le, take_more_set, drop-set-lt, drop_more, take-append-drop}
+use mathlib.Core.HLevel.{is_prop→PathP}
 use Rattle.code.specs.Names.{Ascending}
-use Rattle.code.specs.Serials.{IsLaidOut}
+use Rattle.code.specs.Places.{IsLaidOut}
+use Rattle.code.specs.PlacesLaw.{laid_out_prop}
+use Rattle.code.specs.Serials.{names}
+use Rattle.code.specs.declared.names.Names.{Names}
 
 -- the front of an ascending list is ascending
 ascending_front : (n : ℕ) (xs ys : List ℕ) → Ascending n (xs ++ ys) → Ascending n xs
@@ -51,3 +55,16 @@ writing_more serials count x left rest whole w next few up =
 -- the names are as many as are counted
 pub counted : (serials : List ℕ) (count : ℕ) (names : List ℕ) → IsLaidOut serials count → take count serials ≡ names → length names ≡ count
 counted serials count names laid view_is = grind (arith, common_steps)
+
+-- names of one list lie alike
+pub names_told : (a b : Names) → names a ≡ names b → a ≡ b
+names_told a b same = λ i. record { serials = places i; count = count i; laid_out = is_prop→PathP (λ i. IsLaidOut (places i) (count i)) (λ i. laid_out_prop (places i) (count i)) a.laid_out b.laid_out i }
+  where
+    count : a.count ≡ b.count
+    count = sym (counted a.serials a.count (names a) a.laid_out refl) ∙ ap length same ∙ counted b.serials b.count (names b) b.laid_out refl
+
+    whole : (n : Names) → names n ++ replicate (16 - n.count) 0 ≡ n.serials
+    whole n = ap (λ (xs : List ℕ). names n ++ xs) (sym n.laid_out.blank) ∙ take-append-drop n.count n.serials
+
+    places : a.serials ≡ b.serials
+    places = sym (whole a) ∙ (λ i. same i ++ replicate (16 - count i) 0) ∙ whole b

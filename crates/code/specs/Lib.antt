@@ -5,7 +5,8 @@ pub mod Names
 pub mod Typing
 pub mod Text
 pub mod Serials
-pub mod SerialsLaw
+pub mod Places
+pub mod PlacesLaw
 pub mod Exact
 pub mod Belong
 pub mod Apart

@@ -1,9 +1,10 @@
--- How free names lie in the 16 places of their record: the names in the first places, ascending, and zeros in the others.
-use Rattle.std.specs.Prelude.{◌≡◌, ℕ, ◌-◌, ◌≤◌, List, length, take, drop, replicate}
-use Rattle.code.specs.Names.{Ascending}
+-- The serials that a record of free names holds: as many as it counts.
+use Rattle.std.specs.Prelude.{ℕ, List, take, replicate}
+use Rattle.code.specs.PlacesLaw.{none_laid_out}
+use Rattle.code.specs.declared.names.Names.{Names}
 
-pub record IsLaidOut (serials : List ℕ) (count : ℕ) : Type 0 where
-  pub sixteen : length serials ≡ 16
-  pub few : count ≤ 16
-  pub ascending : Ascending 0 (take count serials)
-  pub blank : drop count serials ≡ replicate (16 - count) 0
+abbrev pub names : Names → List ℕ
+names n = take n.count n.serials
+
+abbrev pub no_names : Names
+no_names = record { serials = replicate 16 0; count = 0; laid_out = none_laid_out }

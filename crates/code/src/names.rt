@@ -1,39 +1,27 @@
 // The free names of a code, merged and removed.
 ghost use Rattle.std.specs.Prelude.{◌≡◌, ℕ, ◌+◌, ◌<◌, ◌≤◌, [], ◌∷◌, ◌++◌, length, take, ◌==◌, IfNone, IfSome};
 ghost use Rattle.code.specs.Names.{Ascending, BeginsWith, merge, without};
+ghost use Rattle.code.specs.Places.{IsLaidOut};
+ghost use Rattle.code.specs.PlacesLaw.{laid_out_prop};
 
 use std::cmp::Ordering;
-use std::marker::Model;
 
 // At most 16 serials, ascending, each once. An array with its count, and no `ArrayVec`: names are copied with their
-// cell, and a clone of an `ArrayVec` may fail.
+// cell, and a clone of an `ArrayVec` may fail. How they lie is a fact of the struct, and no model makes a list of them:
+// plain data that holds a copied type with a model within an enum or an array is not handed on by value.
 #[derive(Clone, Copy)]
 pub struct Names {
     serials: [u16; 16],
     count: usize,
-}
-
-impl Model for Names {
-    ghost use Rattle.std.specs.Prelude.{ℕ, List, take};
-    ghost use Rattle.code.specs.Serials.{IsLaidOut};
-
-    ghost Value = { List ℕ };
-
-    ghost view = { λ n. take n.count n.serials };
-
-    ghost invariant = { λ n. IsLaidOut n.serials n.count };
-
-    ghost use Rattle.code.specs.SerialsLaw.{places_of, places_of-take};
-
-    ghost inverse = { places_of };
-
-    ghost inverse_ok = { places_of-take };
+    pub ghost laid_out: { IsLaidOut serials count } by { laid_out_prop serials count },
 }
 
 impl Names {
+    ghost use Rattle.code.specs.Serials.{names};
+
     // No name.
     pub fn none() -> Names
-        ensures { result ≡ [] }
+        ensures { names result ≡ [] }
     {
         Names {
             serials: [0; 16],
@@ -43,7 +31,7 @@ impl Names {
 
     // A single name.
     pub fn one(serial: u16) -> Names
-        ensures { result ≡ serial ∷ [] }
+        ensures { names result ≡ serial ∷ [] }
     {
         let mut serials = [0; 16];
         serials[0] = serial;
@@ -52,14 +40,14 @@ impl Names {
 
     // Whether there is none.
     pub fn is_empty(&self) -> bool
-        ensures { result ≡ (length self.now == 0) }
+        ensures { result ≡ (length (names self.now) == 0) }
     {
         self.count == 0
     }
 
     // The names in their order.
     pub fn as_slice(&self) -> &[u16]
-        ensures value { result.now ≡ self.now }
+        ensures value { result.now ≡ names self.now }
         ensures few { length result.now ≤ 16 }
         ensures ascending { Ascending 0 result.now }
     {
@@ -68,9 +56,9 @@ impl Names {
 
     // One name more, above all others.
     fn push(&mut self, serial: u16)
-        requires room { length self.old < 16 }
-        requires above { Ascending 0 (self.old ++ serial ∷ []) }
-        ensures { self.new ≡ self.old ++ serial ∷ [] }
+        requires room { length (names self.old) < 16 }
+        requires above { Ascending 0 (names self.old ++ serial ∷ []) }
+        ensures { names self.new ≡ names self.old ++ serial ∷ [] }
     {
         self.serials[self.count] = serial;
         self.count += 1;
@@ -78,7 +66,7 @@ impl Names {
 
     // The names of both, in one pass; the first 16, which are all of them where each is open.
     pub fn merge(&self, other: &Names) -> Names
-        ensures { result ≡ take 16 (merge self.now other.now) }
+        ensures { names result ≡ take 16 (merge (names self.now) (names other.now)) }
     {
         let mut merged = Names::none();
         let mut left = self.as_slice();
@@ -98,7 +86,7 @@ impl Names {
     // The names but one. Places and count are kept apart until all are written: in a `Names` each count would be waited
     // for before the next.
     pub fn without(&self, serial: u16) -> Names
-        ensures { result ≡ without serial self.now }
+        ensures { names result ≡ without serial (names self.now) }
     {
         let mut serials = [0; 16];
         let mut count = 0;

@@ -7,6 +7,7 @@ use Rattle.code.specs.declared.types.Ty.{Ty}
 use Rattle.code.specs.declared.operator.UnknownNumber.{UnknownNumber}
 use Rattle.code.specs.Code.{Code}
 use Rattle.code.specs.Names.{insert, merge}
+use Rattle.code.specs.Serials.{names}
 use Rattle.store.specs.Meaning.{Codes, meant, over2, over3}
 use Rattle.generator.specs.declared.cell.Cell.{Cell}
 use Rattle.generator.specs.declared.cell.Piece.{Piece as Held}
@@ -101,7 +102,7 @@ piece_is p q r s = λ i. record { code = p i; type = q i; size = r i; names = s 
 -- a plan that makes a piece and leaves the binders as they are
 pub kept_sketched :
     {code : Codes} {t : Table} {plan : Result Plan Fault} {p : Sketch} (to : ℕ) (piece : Piece)
-    → plan ≡ into (read code t) to piece → p.to.at ≡ to → p.scope ≡ Kept → meant code p.construct ≡ Some piece.code → p.ty ≡ piece.type → p.size ≡ piece.size → p.names ≡ piece.names
+    → plan ≡ into (read code t) to piece → p.to.at ≡ to → p.scope ≡ Kept → meant code p.construct ≡ Some piece.code → p.ty ≡ piece.type → p.size ≡ piece.size → names p.names ≡ piece.names
     → Sketched code t plan p
 kept_sketched {code} {t} {plan} {p} to piece e a k m y s n = record {
   granted = e ∙ (λ i. Ok (plan_of code t (sym a i) (is i) (sym k i)));

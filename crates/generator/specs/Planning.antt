@@ -1,6 +1,7 @@
 -- What a plan of the table is by the definition, read through the store.
 use Rattle.std.specs.Prelude.{◌≡◌, ℕ, ◌+◌, List, [], ◌∷◌, map, Some, None, Ok, Err, Option, Result, slice_set}
 use Rattle.code.specs.Code.{Code}
+use Rattle.code.specs.Serials.{names}
 use Rattle.store.specs.Meaning.{Codes, meant, wanted}
 use Rattle.generator.specs.declared.plan.Plan.{Plan as Sketch}
 use Rattle.generator.specs.declared.plan.Scope.{Scope}
@@ -14,7 +15,7 @@ use Rattle.generator.specs.Plans.{RoomFor}
 
 -- the piece that a plan makes
 abbrev pub made_piece : Codes → Sketch → Piece
-made_piece code p = record { code = known_code (meant code p.construct); type = p.ty; size = p.size; names = p.names }
+made_piece code p = record { code = known_code (meant code p.construct); type = p.ty; size = p.size; names = names p.names }
 
 abbrev pub but_latest : List Binder → List Binder
 but_latest [] = []

@@ -1,6 +1,7 @@
 -- A generator read through its store: each handle as the code that it stands for.
 use Rattle.std.specs.Prelude.{ℕ, List, map, reverse, take, pos, Some, None, Ok, Err, Option, Result, option_map}
 use Rattle.code.specs.Code.{Code}
+use Rattle.code.specs.Serials.{names}
 use Rattle.store.specs.Meaning.{Codes}
 use Rattle.store.specs.declared.meaning.StoreFault.{StoreFault}
 use Rattle.store.specs.declared.meaning.StoreFault.TheVariants as store
@@ -20,7 +21,7 @@ known_code None = Code.number (pos 0)
 known_code (Some c) = c
 
 abbrev pub read_piece : Codes → Held → Piece
-read_piece code p = record { code = known_code (code p.handle); type = p.ty; size = p.size; names = p.names }
+read_piece code p = record { code = known_code (code p.handle); type = p.ty; size = p.size; names = names p.names }
 
 abbrev pub read_cell : Codes → Cell → Option Piece
 read_cell code c = option_map (read_piece code) c.content

@@ -34,19 +34,24 @@ impl Table {
             size: plan.size,
             names: plan.names,
         };
-        self.cells[plan.to.at].fill(piece);
+        // The cells are lent before one of them is, here and below: in one step the table, whose facts are open
+        // meanwhile, gets no proof.
+        let cells = &mut self.cells;
+        cells[plan.to.at].fill(piece);
     }
 
     pub(crate) fn copy(&mut self, cell: u8, from: u8) -> Result<(), GeneratorFault> {
         let to = Slot::try_from(cell)?;
         let piece = self.read(from)?;
-        self.cells[to.at].fill(piece);
+        let cells = &mut self.cells;
+        cells[to.at].fill(piece);
         Ok(())
     }
 
     pub(crate) fn clear(&mut self, cell: u8) -> Result<(), GeneratorFault> {
         let to = Slot::try_from(cell)?;
-        self.cells[to.at].clear();
+        let cells = &mut self.cells;
+        cells[to.at].clear();
         Ok(())
     }
 

@@ -1,5 +1,6 @@
 // What a call reads of the table, and the refusals that it judges first.
 ghost use Rattle.std.specs.Prelude.{◌≡◌, ℕ, ◌<◌, length, map};
+ghost use Rattle.code.specs.Serials.{names as serials_of};
 ghost use Rattle.store.specs.Meaning.{Codes};
 ghost use Rattle.model.specs.Model.{is_open, escaping};
 ghost use Rattle.generator.specs.Reads.{read, read_binders, read_result, read_piece};
@@ -47,7 +48,7 @@ impl Table {
 
     // How many of the names are not open.
     pub(crate) fn escaping(&self, used: &Names) -> u8
-        ensures { (code : Codes) → result ≡ length (escaping (read_binders code self.now) used.now) }
+        ensures { (code : Codes) → result ≡ length (escaping (read_binders code self.now) (serials_of used.now)) }
     {
         let escaped = used.as_slice().iter().filter(|s| !self.is_open(**s));
         escaped.count() as u8

@@ -3,6 +3,8 @@
 
 pub mod cursor;
 pub mod fault;
+#[cfg(test)]
+mod handing;
 mod kind;
 pub mod laws;
 pub mod playing;

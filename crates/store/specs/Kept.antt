@@ -1,5 +1,5 @@
 -- What a memory holds.
-use Rattle.std.specs.Prelude.{◌≡◌, ℕ, ◌<◌, ◌≤◌, List}
+use Rattle.std.specs.Prelude.{◌≡◌, ℕ, ◌<◌, ◌≤◌, List, length}
 use Rattle.store.specs.declared.memory.Remembered.{Remembered}
 
 -- entries, how many of them are in use, and the place that is written next
@@ -11,5 +11,6 @@ pub record Kept : Type 0 where
 -- the places in use: all 64, or the first ones up to the next
 pub record InOrder (m : Kept) : Type 0 where
   pub few : m.count ≤ 64
+  pub held : m.count ≤ length m.entries
   pub within : m.next < 64
   pub filling : m.count < 64 → m.next ≡ m.count

@@ -1,4 +1,4 @@
-use Rattle.std.proofs.Common.{sym, ap, ◌∙◌, take, arith}
+use Rattle.std.proofs.Common.{sym, ap, ◌∙◌, take, arith, refl}
 use Rattle.std.proofs.lemmas.List.{take_at}
 use Rattle.std.proofs.lemmas.Grind.{common_steps}
 use Rattle.code.proofs.NameLists.{ascending_merge}
@@ -13,8 +13,9 @@ push-requires-clause-above c =
 
 pub returns : goal.returns
 returns c =
-    let count = counted _ _ _ c.merged.invariant c.merged.view_is in
-    sym (take_at _ _ 16 (omega (arith, count, c.merged.invariant.few))) ∙ ap (take 16) c.loop-merged.invariant.joins
+    let laid = c.loop-merged.merged.laid_out in
+    let count = counted _ _ _ laid refl in
+    sym (take_at _ _ 16 (omega (arith, count, laid.few))) ∙ ap (take 16) c.loop-merged.invariant.joins
 
 pub returns-in_default : goal.returns-in_default
-returns-in_default c = grind (arith, common_steps, c.in_default.ensures.none, counted _ _ _ c.merged.invariant c.merged.view_is)
+returns-in_default c = grind (arith, common_steps, c.in_default.ensures.none, counted _ _ _ c.loop-merged.merged.laid_out refl)

@@ -2,6 +2,7 @@ use Rattle.std.proofs.Common.{◌≡◌, ◌+◌, [], ◌∷◌, get_or, Ok, Err
 use Rattle.code.specs.declared.types.Ty.{Ty}
 use Rattle.code.specs.Code
 use Rattle.code.specs.Names.{merge}
+use Rattle.code.specs.Serials.{names}
 use Rattle.code.specs.Typing.{chosen}
 use Rattle.model.specs.Model.{Piece, stated, typed, choose_plan, into}
 use Rattle.model.specs.Calls.{makes}
@@ -61,12 +62,12 @@ returns-clause-planned c code stands =
     let kind : typed (chosen x.ty y.ty z.ty) Ok ≡ Ok c.in_ok-ty.ty = ap (λ (o : Option Ty). typed o Ok) (sym c.chosen.ensures) ∙ sym c.in_ok-ty.ensures in
     let same : 1 + x.size + y.size + z.size ≡ 1 + sum (x.size ∷ y.size ∷ z.size ∷ []) = omega arith in
     let large : sized (1 + x.size + y.size + z.size) ≡ Ok c.in_ok-size.size = ap sized same ∙ sym c.in_ok-size.ensures in
-    let piece : Piece = record { code = Code.choose (read_piece code x).code (read_piece code y).code (read_piece code z).code; type = c.in_ok-ty.ty; size = c.in_ok-size.size; names = merge x.names (merge y.names z.names) } in
+    let piece : Piece = record { code = Code.choose (read_piece code x).code (read_piece code y).code (read_piece code z).code; type = c.in_ok-ty.ty; size = c.in_ok-size.size; names = merge (names x.names) (merge (names y.names) (names z.names)) } in
     let plans : choose_plan stated st c.args.cell c.args.condition c.args.then c.args.otherwise ≡ into st c.args.cell piece = choose_direct st c.args.cell c.args.condition c.args.then c.args.otherwise ∙ rw (to, cells, kind, large) refl in
     let few = (made_good code t (call.Choose c.args.cell c.args.condition c.args.then c.args.otherwise) _ stands (ap makes plans)).1.few in
     let known_x = cell_known code t c.args.condition x stands were.1 in
     let known_y = cell_known code t c.args.then y stands were.2 in
     let known_z = cell_known code t c.args.otherwise z stands were.3 in
-    let tail = merged c.merge.result y.names z.names c.merge.ensures (few_tail x.names y.names z.names few) in
-    let all = merged c.merge-names.result x.names (merge y.names z.names) (c.merge-names.ensures ∙ ap (λ (l : List ℕ). take 16 (merge x.names l)) tail) few in
+    let tail = merged (names c.merge.result) (names y.names) (names z.names) c.merge.ensures (few_tail (names x.names) (names y.names) (names z.names) few) in
+    let all = merged (names c.merge-names.result) (names x.names) (merge (names y.names) (names z.names)) (c.merge-names.ensures ∙ ap (λ (l : List ℕ). take 16 (merge (names x.names) l)) tail) few in
     kept_sketched c.args.cell piece plans c.in_ok-to.ensures.0.0 refl (meant_three Code.choose known_x known_y known_z) refl refl all

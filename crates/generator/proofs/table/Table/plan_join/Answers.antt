@@ -2,6 +2,7 @@ use Rattle.std.proofs.Common.{◌≡◌, ◌+◌, [], ◌∷◌, get_or, Ok, Err
 use Rattle.code.specs.declared.types.Ty.{Ty}
 use Rattle.code.specs.Code
 use Rattle.code.specs.Names.{merge}
+use Rattle.code.specs.Serials.{names}
 use Rattle.code.specs.Numbers.{operator}
 use Rattle.code.specs.Typing.{joined}
 use Rattle.model.specs.Model.{Piece, stated, typed, lawful, join_plan, into}
@@ -63,10 +64,10 @@ returns-clause-planned c code stands =
     let kind : typed (joined c.in_ok-operator.operator x.ty y.ty) Ok ≡ Ok c.in_ok-ty.ty = ap (λ (o : Option Ty). typed o Ok) (sym c.joined.ensures) ∙ sym c.in_ok-ty.ensures in
     let same : 1 + x.size + y.size ≡ 1 + sum (x.size ∷ y.size ∷ []) = omega arith in
     let large : sized (1 + x.size + y.size) ≡ Ok c.in_ok-size.size = ap sized same ∙ sym c.in_ok-size.ensures in
-    let piece : Piece = record { code = Code.join c.in_ok-operator.operator (read_piece code x).code (read_piece code y).code; type = c.in_ok-ty.ty; size = c.in_ok-size.size; names = merge x.names y.names } in
+    let piece : Piece = record { code = Code.join c.in_ok-operator.operator (read_piece code x).code (read_piece code y).code; type = c.in_ok-ty.ty; size = c.in_ok-size.size; names = merge (names x.names) (names y.names) } in
     let plans : join_plan stated st c.args.cell c.args.operator c.args.left c.args.right ≡ into st c.args.cell piece = join_direct st c.args.cell c.args.operator c.args.left c.args.right ∙ rw (to, op, cells, kind, large) refl in
     let few = (made_good code t (call.Join c.args.cell c.args.operator c.args.left c.args.right) _ stands (ap makes plans)).1.few in
     let known_x = cell_known code t c.args.left x stands were.1 in
     let known_y = cell_known code t c.args.right y stands were.2 in
-    let all = merged c.merge.result x.names y.names c.merge.ensures few in
+    let all = merged (names c.merge.result) (names x.names) (names y.names) c.merge.ensures few in
     kept_sketched c.args.cell piece plans c.in_ok-to.ensures.0.0 refl (meant_two (Code.join c.in_ok-operator.operator) known_x known_y) refl refl all
