@@ -1,5 +1,5 @@
-// What a generator is made of, handed on by value from another crate. Each type stands alone in its function, since one
-// that names more is proved where others are not.
+// What a generator is made of, handed on by value by another crate than its own: the proofs of these functions are what
+// is tested. Each function names one type alone, since the check may find in a second one what it needs of the first.
 ghost use Rattle.std.specs.Prelude.{◌≡◌};
 
 use crate::playing::play;
